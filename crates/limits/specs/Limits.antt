@@ -1,0 +1,136 @@
+-- The numbers of document 01 that contracts cite, once. src/lib.rt has the same ones for code, and its three functions tie them together.
+-- A request that changes a number changes it here and there, and nowhere else.
+use Prim.Native.Nat.{ℕ, _*_}
+
+-- "Shapes are numbered 0 to 31." "A shape is a list of 1 to 32 corner points." "Places are numbered 0 to 63." "a turn 0 to 23"
+abbrev pub shapes : ℕ
+shapes = 32
+
+abbrev pub corners : ℕ
+corners = 32
+
+abbrev pub places : ℕ
+places = 64
+
+abbrev pub turns : ℕ
+turns = 24
+
+-- the lengths of the lent buffers
+abbrev pub shapeNumbers : ℕ
+shapeNumbers = 3 * corners
+
+abbrev pub cornerNumbers : ℕ
+cornerNumbers = shapes * shapeNumbers
+
+abbrev pub poseNumbers : ℕ
+poseNumbers = 2 * places
+
+abbrev pub offsetNumbers : ℕ
+offsetNumbers = 3 * places
+
+abbrev pub rows : ℕ
+rows = places * places
+
+-- "one lent buffer of 384 16-bit numbers, 128 an axis"
+abbrev pub axisMarks : ℕ
+axisMarks = 2 * places
+
+abbrev pub marks : ℕ
+marks = 3 * axisMarks
+
+abbrev pub book : ℕ
+book = 16
+
+abbrev pub tallies : ℕ
+tallies = 4
+
+-- what stands in a row of no pair; "The unused tail of a part holds 65,535."
+abbrev pub noRow : ℕ
+noRow = 255
+
+abbrev pub noMark : ℕ
+noMark = 65535
+
+-- "All geometry is in whole steps, 64 to the millimetre." "each from −65,536 to 65,536" "within ±131,072"
+abbrev pub steps : ℕ
+steps = 64
+
+abbrev pub shapeReach : ℕ
+shapeReach = 65536
+
+abbrev pub placedReach : ℕ
+placedReach = 131072
+
+-- "1 to 4 digits, then nothing, or one comma or point and 1 or 2 digits"; "The value in hundredths of a millimetre is at most 102,400"
+abbrev pub wholeDigits : ℕ
+wholeDigits = 4
+
+abbrev pub partDigits : ℕ
+partDigits = 2
+
+abbrev pub mostHundredths : ℕ
+mostHundredths = 102400
+
+-- "When the desk says no": 0 is done, and each refusal has its number
+abbrev pub done : ℕ
+done = 0
+
+abbrev pub disorder : ℕ
+disorder = 1
+
+abbrev pub shapeNumber : ℕ
+shapeNumber = 2
+
+abbrev pub listLength : ℕ
+listLength = 3
+
+abbrev pub cornerRange : ℕ
+cornerRange = 4
+
+abbrev pub shapeLoaded : ℕ
+shapeLoaded = 5
+
+abbrev pub shapeMissing : ℕ
+shapeMissing = 6
+
+abbrev pub placeNumber : ℕ
+placeNumber = 7
+
+abbrev pub placeTaken : ℕ
+placeTaken = 8
+
+abbrev pub placeEmpty : ℕ
+placeEmpty = 9
+
+abbrev pub turnNumber : ℕ
+turnNumber = 10
+
+abbrev pub offsetRange : ℕ
+offsetRange = 11
+
+abbrev pub samePlace : ℕ
+samePlace = 12
+
+abbrev pub shortRoom : ℕ
+shortRoom = 13
+
+abbrev pub lengthForm : ℕ
+lengthForm = 14
+
+abbrev pub lengthRange : ℕ
+lengthRange = 15
+
+abbrev pub notFinite : ℕ
+notFinite = 16
+
+abbrev pub notWhole : ℕ
+notWhole = 17
+
+abbrev pub floatRange : ℕ
+floatRange = 18
+
+abbrev pub sizeZero : ℕ
+sizeZero = 19
+
+abbrev pub placedRange : ℕ
+placedRange = 20

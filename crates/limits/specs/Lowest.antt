@@ -1,0 +1,35 @@
+-- "0 is done. Otherwise the lowest number that applies is given, and only where it applies." (document 01, "When the desk says no")
+-- A call lists its refusals in the order that decides; two numbers that are both the lowest of one list are equal.
+use mathlib.Core.Path.{_≡_, refl, sym, _∙_}
+use mathlib.Core.List.{List, [], _∷_}
+use mathlib.Core.Logic.{_⊎_, inl, inr, ⊎-elim}
+use Prim.Native.Nat.{ℕ}
+
+-- a refusal's number, and when it applies: a statement of what was handed in
+pub record Refusal : Type 1 where
+  pub number : ℕ
+  pub applies : Type 0
+
+infix 70 _when_
+abbrev pub _when_ : ℕ → Type 0 → Refusal
+n when C = record { number = n; applies = C }
+
+-- n is the number of the first refusal of the list that applies, or 0 where none does
+abbrev pub Lowest : List Refusal → ℕ → Type 0
+Lowest [] n = n ≡ 0
+Lowest (r ∷ rest) n = (r .applies × (n ≡ r .number)) ⊎ ((r .applies → ⊥) × Lowest rest n)
+
+-- the lowest is one number
+pub lowest-once : (l : List Refusal) {m n : ℕ} → Lowest l m → Lowest l n → m ≡ n
+lowest-once [] h k = h ∙ sym k
+lowest-once (r ∷ rest) (inl h) (inl k) = h .1 ∙ sym (k .1)
+lowest-once (r ∷ rest) (inl h) (inr k) = absurd (k .0 (h .0))
+lowest-once (r ∷ rest) (inr h) (inl k) = absurd (h .0 (k .0))
+lowest-once (r ∷ rest) (inr h) (inr k) = lowest-once rest (h .1) (k .1)
+
+-- it applies, where it is the first; and none before it does
+pub refused : (l : List Refusal) {n : ℕ} {C : Type 0} → C → Lowest (n when C ∷ l) n
+refused l c = inl (c, refl)
+
+pub passed : {l : List Refusal} {m n : ℕ} {C : Type 0} → (C → ⊥) → Lowest l n → Lowest (m when C ∷ l) n
+passed f h = inr (f, h)

@@ -1,0 +1,43 @@
+-- The numbers of Limits as the records that src/lib.rt makes of its own: where the two files differ, the `tied_` function is refused.
+-- Nothing else cites this file.
+use mathlib.Core.List.{List, [], _∷_}
+use lib.IntN.{pos}
+use Rattle.limits.specs.Limits
+use Rattle.limits.specs.declared.Sizes.{Sizes}
+use Rattle.limits.specs.declared.Ranges.{Ranges}
+use Rattle.limits.specs.declared.Refusals.{Refusals}
+
+abbrev pub theSizes : Sizes
+theSizes = record {
+  shapes = Limits.shapes;
+  corners = Limits.corners;
+  places = Limits.places;
+  turns = Limits.turns;
+  «shape_numbers» = Limits.shapeNumbers;
+  «corner_numbers» = Limits.cornerNumbers;
+  «pose_numbers» = Limits.poseNumbers;
+  «offset_numbers» = Limits.offsetNumbers;
+  rows = Limits.rows;
+  «axis_marks» = Limits.axisMarks;
+  marks = Limits.marks;
+  book = Limits.book;
+  tallies = Limits.tallies;
+  «no_row» = Limits.noRow;
+  «no_mark» = Limits.noMark;
+}
+
+abbrev pub theRanges : Ranges
+theRanges = record {
+  steps = pos Limits.steps;
+  «shape_reach» = pos Limits.shapeReach;
+  «placed_reach» = pos Limits.placedReach;
+  «whole_digits» = Limits.wholeDigits;
+  «part_digits» = Limits.partDigits;
+  «most_hundredths» = Limits.mostHundredths;
+}
+
+abbrev pub theRefusals : Refusals
+theRefusals = record {
+  desk = Limits.done ∷ Limits.disorder ∷ Limits.shapeNumber ∷ Limits.listLength ∷ Limits.cornerRange ∷ Limits.shapeLoaded ∷ Limits.shapeMissing ∷ Limits.placeNumber ∷ Limits.placeTaken ∷ Limits.placeEmpty ∷ Limits.turnNumber ∷ Limits.offsetRange ∷ Limits.samePlace ∷ Limits.shortRoom ∷ [];
+  text = Limits.lengthForm ∷ Limits.lengthRange ∷ Limits.notFinite ∷ Limits.notWhole ∷ Limits.floatRange ∷ Limits.sizeZero ∷ Limits.placedRange ∷ [];
+}

@@ -1,0 +1,196 @@
+// Every number that document 01 fixes and a request may change, once: sizes, ranges, and the refusals by name.
+// specs/ has the same numbers for contracts; the three `tied_` functions below tie the two together.
+ghost use mathlib.Core.Path.{_≡_};
+ghost use Rattle.limits.specs.Tied.{theSizes, theRanges, theRefusals};
+
+// How many there are.
+pub const SHAPES: usize = 32;
+
+pub const CORNERS: usize = 32;
+
+pub const PLACES: usize = 64;
+
+pub const TURNS: usize = 24;
+
+// The lengths of the lent buffers, each worked out of the counts above.
+pub const SHAPE_NUMBERS: usize = 3 * CORNERS;
+
+pub const CORNER_NUMBERS: usize = SHAPES * SHAPE_NUMBERS;
+
+pub const POSE_NUMBERS: usize = 2 * PLACES;
+
+pub const OFFSET_NUMBERS: usize = 3 * PLACES;
+
+pub const ROWS: usize = PLACES * PLACES;
+
+pub const AXIS_MARKS: usize = 2 * PLACES;
+
+pub const MARKS: usize = 3 * AXIS_MARKS;
+
+pub const BOOK: usize = 16;
+
+pub const TALLIES: usize = 4;
+
+// What stands where there is nothing: in a row of no pair, and in the unused tail of an axis's marks.
+pub const NO_ROW: u8 = 255;
+
+pub const NO_MARK: u16 = 65535;
+
+// The ranges, in steps: a shape's corner numbers and an offset's; a placed corner's.
+pub const STEPS: i32 = 64;
+
+pub const SHAPE_REACH: i32 = 65536;
+
+pub const PLACED_REACH: i32 = 131072;
+
+// A typed length: how many digits before and after the separator, and the most in hundredths of a millimetre.
+pub const WHOLE_DIGITS: usize = 4;
+
+pub const PART_DIGITS: usize = 2;
+
+pub const MOST_HUNDREDTHS: u32 = 102400;
+
+// The refusals of document 01, "When the desk says no", by name.
+pub const DONE: u8 = 0;
+
+pub const DISORDER: u8 = 1;
+
+pub const SHAPE_NUMBER: u8 = 2;
+
+pub const LIST_LENGTH: u8 = 3;
+
+pub const CORNER_RANGE: u8 = 4;
+
+pub const SHAPE_LOADED: u8 = 5;
+
+pub const SHAPE_MISSING: u8 = 6;
+
+pub const PLACE_NUMBER: u8 = 7;
+
+pub const PLACE_TAKEN: u8 = 8;
+
+pub const PLACE_EMPTY: u8 = 9;
+
+pub const TURN_NUMBER: u8 = 10;
+
+pub const OFFSET_RANGE: u8 = 11;
+
+pub const SAME_PLACE: u8 = 12;
+
+pub const SHORT_ROOM: u8 = 13;
+
+pub const LENGTH_FORM: u8 = 14;
+
+pub const LENGTH_RANGE: u8 = 15;
+
+pub const NOT_FINITE: u8 = 16;
+
+pub const NOT_WHOLE: u8 = 17;
+
+pub const FLOAT_RANGE: u8 = 18;
+
+pub const SIZE_ZERO: u8 = 19;
+
+pub const PLACED_RANGE: u8 = 20;
+
+pub struct Sizes {
+    pub shapes: usize,
+    pub corners: usize,
+    pub places: usize,
+    pub turns: usize,
+    pub shape_numbers: usize,
+    pub corner_numbers: usize,
+    pub pose_numbers: usize,
+    pub offset_numbers: usize,
+    pub rows: usize,
+    pub axis_marks: usize,
+    pub marks: usize,
+    pub book: usize,
+    pub tallies: usize,
+    pub no_row: u8,
+    pub no_mark: u16,
+}
+
+pub struct Ranges {
+    pub steps: i32,
+    pub shape_reach: i32,
+    pub placed_reach: i32,
+    pub whole_digits: usize,
+    pub part_digits: usize,
+    pub most_hundredths: u32,
+}
+
+pub struct Refusals {
+    pub desk: [u8; 14],
+    pub text: [u8; 7],
+}
+
+// The sizes of this file are those of specs/.
+pub fn tied_sizes() -> Sizes
+    ensures { λ r. ⌜ r ≡ theSizes ⌝ }
+{
+    Sizes {
+        shapes: SHAPES,
+        corners: CORNERS,
+        places: PLACES,
+        turns: TURNS,
+        shape_numbers: SHAPE_NUMBERS,
+        corner_numbers: CORNER_NUMBERS,
+        pose_numbers: POSE_NUMBERS,
+        offset_numbers: OFFSET_NUMBERS,
+        rows: ROWS,
+        axis_marks: AXIS_MARKS,
+        marks: MARKS,
+        book: BOOK,
+        tallies: TALLIES,
+        no_row: NO_ROW,
+        no_mark: NO_MARK,
+    }
+}
+
+// The ranges of this file are those of specs/.
+pub fn tied_ranges() -> Ranges
+    ensures { λ r. ⌜ r ≡ theRanges ⌝ }
+{
+    Ranges {
+        steps: STEPS,
+        shape_reach: SHAPE_REACH,
+        placed_reach: PLACED_REACH,
+        whole_digits: WHOLE_DIGITS,
+        part_digits: PART_DIGITS,
+        most_hundredths: MOST_HUNDREDTHS,
+    }
+}
+
+// The refusals of this file are those of specs/, and each name has its number of document 01.
+pub fn tied_refusals() -> Refusals
+    ensures { λ r. ⌜ r ≡ theRefusals ⌝ }
+{
+    Refusals {
+        desk: [
+            DONE,
+            DISORDER,
+            SHAPE_NUMBER,
+            LIST_LENGTH,
+            CORNER_RANGE,
+            SHAPE_LOADED,
+            SHAPE_MISSING,
+            PLACE_NUMBER,
+            PLACE_TAKEN,
+            PLACE_EMPTY,
+            TURN_NUMBER,
+            OFFSET_RANGE,
+            SAME_PLACE,
+            SHORT_ROOM,
+        ],
+        text: [
+            LENGTH_FORM,
+            LENGTH_RANGE,
+            NOT_FINITE,
+            NOT_WHOLE,
+            FLOAT_RANGE,
+            SIZE_ZERO,
+            PLACED_RANGE,
+        ],
+    }
+}
