@@ -1,8 +1,8 @@
 -- "0 is done. Otherwise the lowest number that applies is given, and only where it applies." (document 01, "When the desk says no")
 -- A call lists its refusals in the order that decides; two numbers that are both the lowest of one list are equal.
-use mathlib.Core.Path.{_≡_, refl, sym, _∙_}
+use mathlib.Core.Path.{_≡_, sym, _∙_}
 use mathlib.Core.List.{List, [], _∷_}
-use mathlib.Core.Logic.{_⊎_, inl, inr, ⊎-elim}
+use mathlib.Core.Logic.{_⊎_, inl, inr}
 use Prim.Native.Nat.{ℕ}
 
 -- a refusal's number, and when it applies: a statement of what was handed in
@@ -26,10 +26,3 @@ lowest-once (r ∷ rest) (inl h) (inl k) = h .1 ∙ sym (k .1)
 lowest-once (r ∷ rest) (inl h) (inr k) = absurd (k .0 (h .0))
 lowest-once (r ∷ rest) (inr h) (inl k) = absurd (h .0 (k .0))
 lowest-once (r ∷ rest) (inr h) (inr k) = lowest-once rest (h .1) (k .1)
-
--- it applies, where it is the first; and none before it does
-pub refused : (l : List Refusal) {n : ℕ} {C : Type 0} → C → Lowest (n when C ∷ l) n
-refused l c = inl (c, refl)
-
-pub passed : {l : List Refusal} {m n : ℕ} {C : Type 0} → (C → ⊥) → Lowest l n → Lowest (m when C ∷ l) n
-passed f h = inr (f, h)
