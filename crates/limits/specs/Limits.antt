@@ -61,6 +61,13 @@ shapeReach = 65536
 abbrev pub placedReach : ℕ
 placedReach = 131072
 
+-- witnesses: "components within 2^39 in size"; "whole weights from 1 to 2^57". Nothing in code compares with these: the walk's own numbers stay below them
+abbrev pub directionReach : ℕ
+directionReach = 549755813888
+
+abbrev pub weightMost : ℕ
+weightMost = 144115188075855872
+
 -- "1 to 4 digits, then nothing, or one comma or point and 1 or 2 digits"; "The value in hundredths of a millimetre is at most 102,400"
 abbrev pub wholeDigits : ℕ
 wholeDigits = 4

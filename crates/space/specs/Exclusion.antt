@@ -1,0 +1,97 @@
+-- What follows from the definitions: separate, touching and penetrating exclude each other, so a right verdict is one number, right both ways.
+-- That one of the three always holds is what the walk shows.
+use mathlib.Core.Path.{_≡_, refl, sym, ap, ap₂, _∙_, subst}
+use mathlib.Core.List.{List, [], _∷_, List·Memᴰ, List·Memᴰ·head, List·Memᴰ·tail}
+use mathlib.Core.Logic.{_⊎_, inl, inr, ⊎-elim}
+use Prim.Native.Nat.{ℕ, zero, suc, _+_, _≤_, _<_}
+use native.Mathlib.Omega.{arith}
+use lib.ListN.{length}
+use lib.IntN.{ℤ, pos, _+ℤ_, _-ℤ_, _*ℤ_}
+use lib.Signed.{_≤ℤ_, _<ℤ_, <ℤ-irrefl, <ℤ-≤ℤ-trans, ≤ℤ-refl}
+use Rattle.ints.specs.Quote.{sides, by-ring}
+use Rattle.ints.specs.Order.{le-comb, lt-comb, nn-of-le, pos-of-lt, nn-add, nn-mul, pos-add, pos-mul, lt→≤ℤ, pos-suc}
+use Rattle.space.specs.Vectors.{Vec3, dot, minus, origin, env1}
+use Rattle.space.specs.Verdicts.{Piece, Pair, cornerCount, cornerAt, Below, NotAbove, Separate, weighted, Fair, Balance, Meeting, Supported, Touching, Penetrating, VerdictIs, separate, touching, penetrating}
+
+-- ---- a balance along a direction d
+weighted-dot : (d : Vec3) (A B : Piece) (ps : List Pair)
+    → weighted (dot d) A B ps ≡ d .x *ℤ weighted (λ v. v .x) A B ps +ℤ d .y *ℤ weighted (λ v. v .y) A B ps +ℤ d .z *ℤ weighted (λ v. v .z) A B ps
+unfolding weighted
+weighted-dot d A B [] = by-ring (env1 d []) (search sides depth 9) refl
+weighted-dot d A B (p ∷ ps) =
+    ap (λ z. p .weight *ℤ dot d (minus (cornerAt A (p .first)) (cornerAt B (p .second))) +ℤ z) (weighted-dot d A B ps)
+    ∙ by-ring (p .weight ∷ weighted (λ v. v .x) A B ps ∷ weighted (λ v. v .y) A B ps ∷ weighted (λ v. v .z) A B ps ∷ env1 d (env1 (cornerAt A (p .first)) (env1 (cornerAt B (p .second)) []))) (search sides depth 40) refl
+
+balance-dot : {A B : Piece} {ps : List Pair} → Balance A B ps → (d : Vec3) → weighted (dot d) A B ps ≡ pos 0
+balance-dot {A} {B} {ps} b d =
+    weighted-dot d A B ps
+    ∙ ap₂ (λ u v. d .x *ℤ u +ℤ d .y *ℤ v +ℤ d .z *ℤ weighted (λ w. w .z) A B ps) (b .zero-x) (b .zero-y)
+    ∙ ap (λ u. d .x *ℤ pos 0 +ℤ d .y *ℤ pos 0 +ℤ d .z *ℤ u) (b .zero-z) ∙ by-ring (env1 d []) (search sides depth 9) refl
+
+-- along a direction that parts the pieces, fair pairs weigh less than nothing
+positive : {A B : Piece} {p : Pair} → Fair A B p → pos 0 <ℤ p .weight
+positive f = <ℤ-≤ℤ-trans (pos-suc 0) (f .least)
+
+gap : (d a b : Vec3) → dot d a <ℤ dot d b → pos 0 <ℤ (pos 0 -ℤ dot d (minus a b))
+gap d a b h = subst (λ z. pos 0 <ℤ z) (by-ring (env1 d (env1 a (env1 b []))) (search sides depth 40) refl) (pos-of-lt h)
+
+not-more : {d : Vec3} {A B : Piece} → Below d A B → (ps : List Pair) → ((p : Pair) → List·Memᴰ p ps → Fair A B p) → weighted (dot d) A B ps ≤ℤ pos 0
+unfolding weighted
+not-more b [] f = ≤ℤ-refl (pos 0)
+not-more {d} {A} {B} b (p ∷ ps) f =
+    let k = f p (List·Memᴰ·head refl) in
+    le-comb
+    (nn-add
+    (nn-mul (lt→≤ℤ (positive k)) (lt→≤ℤ (gap d (cornerAt A (p .first)) (cornerAt B (p .second)) (b .all (p .first) (p .second) (k .of-first) (k .of-second)))))
+    (nn-of-le (not-more b ps (λ q m. f q (List·Memᴰ·tail m)))))
+    (by-ring (p .weight ∷ dot d (minus (cornerAt A (p .first)) (cornerAt B (p .second))) ∷ weighted (dot d) A B ps ∷ []) (search sides depth 40) refl)
+
+less : {d : Vec3} {A B : Piece} → Below d A B → (ps : List Pair) → 1 ≤ length ps → ((p : Pair) → List·Memᴰ p ps → Fair A B p) → weighted (dot d) A B ps <ℤ pos 0
+unfolding weighted
+less b [] n f = absurd (omega arith)
+less {d} {A} {B} b (p ∷ ps) n f =
+    let k = f p (List·Memᴰ·head refl) in
+    lt-comb
+    (pos-add
+    (pos-mul (positive k) (gap d (cornerAt A (p .first)) (cornerAt B (p .second)) (b .all (p .first) (p .second) (k .of-first) (k .of-second))))
+    (nn-of-le (not-more b ps (λ q m. f q (List·Memᴰ·tail m)))))
+    (by-ring (p .weight ∷ dot d (minus (cornerAt A (p .first)) (cornerAt B (p .second))) ∷ weighted (dot d) A B ps ∷ []) (search sides depth 40) refl)
+
+-- ---- the exclusions
+pub not-both : {A B : Piece} → Separate A B → Meeting A B → ⊥
+not-both {A} {B} s m =
+    <ℤ-irrefl (subst (λ z. z <ℤ pos 0) (balance-dot (m .balance) (s .direction)) (less (s .parts) (m .pairs) (m .balance .some) (m .balance .fair)))
+
+pub not-touching : {A B : Piece} → Touching A B → Penetrating A B → ⊥
+not-touching t p = p .free (t .direction) (t .supported)
+
+-- ---- a right verdict is one number
+pub verdict-once : {A B : Piece} {u v : ℕ} → VerdictIs A B u → VerdictIs A B v → u ≡ v
+verdict-once (inl p) (inl q) = p .0 ∙ sym (q .0)
+verdict-once (inl p) (inr (inl q)) = absurd (not-both (p .1) (q .1 .meeting))
+verdict-once (inl p) (inr (inr q)) = absurd (not-both (p .1) (q .1 .meeting))
+verdict-once (inr (inl p)) (inl q) = absurd (not-both (q .1) (p .1 .meeting))
+verdict-once (inr (inl p)) (inr (inl q)) = p .0 ∙ sym (q .0)
+verdict-once (inr (inl p)) (inr (inr q)) = absurd (not-touching (p .1) (q .1))
+verdict-once (inr (inr p)) (inl q) = absurd (not-both (q .1) (p .1 .meeting))
+verdict-once (inr (inr p)) (inr (inl q)) = absurd (not-touching (q .1) (p .1))
+verdict-once (inr (inr p)) (inr (inr q)) = p .0 ∙ sym (q .0)
+
+-- ---- "both ways": a right verdict is 1 exactly where the pieces are separate, 2 where they touch, 3 where they penetrate
+pub record BothWays (A B : Piece) (v : ℕ) : Type 0 where
+  pub is-separate : v ≡ separate → Separate A B
+  pub of-separate : Separate A B → v ≡ separate
+  pub is-touching : v ≡ touching → Touching A B
+  pub of-touching : Touching A B → v ≡ touching
+  pub is-penetrating : v ≡ penetrating → Penetrating A B
+  pub of-penetrating : Penetrating A B → v ≡ penetrating
+
+pub both-ways : {A B : Piece} {v : ℕ} → VerdictIs A B v → BothWays A B v
+both-ways {A} {B} {v} r = record {
+  is-separate = λ e. ⊎-elim (λ p. p .1) (⊎-elim (λ p. absurd (let k : _≡_ {A = ℕ} 1 2 = sym e ∙ p .0 in omega arith)) (λ p. absurd (let k : _≡_ {A = ℕ} 1 3 = sym e ∙ p .0 in omega arith))) r;
+  of-separate = λ s. verdict-once r (inl (refl, s));
+  is-touching = λ e. ⊎-elim (λ p. absurd (let k : _≡_ {A = ℕ} 2 1 = sym e ∙ p .0 in omega arith)) (⊎-elim (λ p. p .1) (λ p. absurd (let k : _≡_ {A = ℕ} 2 3 = sym e ∙ p .0 in omega arith))) r;
+  of-touching = λ s. verdict-once r (inr (inl (refl, s)));
+  is-penetrating = λ e. ⊎-elim (λ p. absurd (let k : _≡_ {A = ℕ} 3 1 = sym e ∙ p .0 in omega arith)) (⊎-elim (λ p. absurd (let k : _≡_ {A = ℕ} 3 2 = sym e ∙ p .0 in omega arith)) (λ p. p .1)) r;
+  of-penetrating = λ s. verdict-once r (inr (inr (refl, s)));
+}
