@@ -1,0 +1,7 @@
+pub mod Exits
+pub mod Flat
+pub mod Portal
+pub mod Shift
+pub mod Sizes
+pub mod Step
+pub mod Turn
