@@ -1,3 +1,4 @@
+pub mod Decides
 pub mod Limits
 pub mod Lowest
 pub mod Tied

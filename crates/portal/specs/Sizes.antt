@@ -6,7 +6,7 @@ use lib.Dec.{T, ltb, leb, le→leb}
 use lib.IntN.{ℤ, pos, negsuc, negℤ, natAbs, _+ℤ_, _-ℤ_, _*ℤ_}
 use lib.Signed.{_≤ℤ_, _<ℤ_}
 use Rattle.ints.specs.Quote.{sides, by-ring}
-use Rattle.ints.specs.Bounds.{Within, Known, known, within}
+use Rattle.ints.specs.Bounds.{Within, known, within, within-upper}
 use Rattle.space.specs.declared.Vec3.{Vec3}
 use Rattle.space.specs.Vectors.{dot, cross, minus, plus, scale, det, normal, env1, origin}
 use Rattle.space.specs.Ranges.{Upto, pointReach, shiftReach}
@@ -103,10 +103,6 @@ unfolding hat
 tie-one q p r c = k3-one bigK q p r c
 
 -- ---- the reach
-upper : {n : ℕ} {z : ℤ} → Within n z → z ≤ℤ pos n
-upper {n} {z = pos m} w = record { le = le→leb m n (w .abs) }
-upper {n} {z = negsuc m} w = record { le = tt }
-
 reach-within : {a b c c1 c2 c3 : Vec3} → Upto pointReach a → Upto pointReach b → Upto pointReach c → Upto pointReach c1 → Upto pointReach c2 → Upto pointReach c3
     → Within bigS (negℤ (bigK *ℤ bigK *ℤ dot (normal a b c) (beam c1 c2 c3)))
 unfolding bigS bigK bigL beam
@@ -114,7 +110,7 @@ reach-within ua ub uc u1 u2 u3 = within (search known depth 15) tt
 
 pub reach-upper : (q : Vec3) {a b c c1 c2 c3 : Vec3} → Upto pointReach a → Upto pointReach b → Upto pointReach c → Upto pointReach c1 → Upto pointReach c2 → Upto pointReach c3
     → reach (hat q a) (hat q b) (hat q c) (beam c1 c2 c3) ≤ℤ pos bigS
-reach-upper q {a} {b} {c} {c1} {c2} {c3} ua ub uc u1 u2 u3 = subst (λ z. z ≤ℤ pos bigS) (ap negℤ (sym (hat-normal q a b c (beam c1 c2 c3)))) (upper (reach-within ua ub uc u1 u2 u3))
+reach-upper q {a} {b} {c} {c1} {c2} {c3} ua ub uc u1 u2 u3 = subst (λ z. z ≤ℤ pos bigS) (ap negℤ (sym (hat-normal q a b c (beam c1 c2 c3)))) (within-upper (reach-within ua ub uc u1 u2 u3))
 
 -- ---- the starts
 -- from the plain portal to the shifted one, and back where q is the origin

@@ -1,9 +1,12 @@
 // Points and directions of whole numbers: the kernels of the verdict's arithmetic, each with its exact value and its range.
 // The ranges are those of the walk (specs/Ranges.antt); the kernels are internal to the project, and every caller meets them.
 ghost use mathlib.Core.Path.{_≡_};
-ghost use lib.IntN.{ℤ, pos, negℤ};
+ghost use lib.IntN.{ℤ, natAbs};
 ghost use Rattle.ints.specs.Sign.{lex};
 ghost use Rattle.space.specs.Vectors.{dot, cross, minus, plus, opposite, det};
+ghost use Rattle.limits.specs.Decides.{Decides};
+ghost use Rattle.ints.specs.Bounds.{Within};
+ghost use Rattle.space.specs.Lists.{LengthFits, InReach, Reach};
 ghost use Rattle.space.specs.Ranges.{Upto, pointReach, pairReach, shiftReach, crossReach, sumReach};
 
 pub struct Vec3 {
@@ -97,4 +100,43 @@ pub fn first_of(u: i64, v: i64) -> i64
         return v;
     }
     u
+}
+
+// Whether n numbers are a corner list: three for each of 1 to 32 corners.
+pub fn length_fits(n: usize) -> bool
+    ensures { λ r. ⌜ Decides r (LengthFits n) ⌝ }
+{
+    if n == 0 {
+        return false;
+    }
+    if n % 3 != 0 {
+        return false;
+    }
+    n <= limits::SHAPE_NUMBERS
+}
+
+// Whether a number is within ±reach.
+pub fn near(x: i32, reach: i32) -> bool
+    requires { ⌜ Reach reach ⌝ }
+    ensures { λ r. ⌜ Decides r (Within (natAbs reach) x) ⌝ }
+{
+    if x < -reach {
+        return false;
+    }
+    x <= reach
+}
+
+// Whether every number of a list is within ±reach.
+pub fn in_reach(s: &[i32], reach: i32) -> bool
+    requires { ⌜ Reach reach ⌝ }
+    ensures { λ r. ⌜ Decides r (InReach (natAbs reach) (now (s .entry))) ⌝ }
+{
+    let mut i = 0;
+    while i < s.len() {
+        if !near(s[i], reach) {
+            return false;
+        }
+        i += 1;
+    }
+    true
 }

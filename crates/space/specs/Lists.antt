@@ -1,0 +1,31 @@
+-- Corner lists as they are handed in: how long one must be, and how far its numbers may reach.
+-- Document 01: "a corner list's length isn't 3 × (1 to 32)", "a shape's corner number is beyond ±65,536", "a placed corner of a lent list .. beyond ±131,072".
+use mathlib.Core.Path.{_≡_}
+use Prim.Native.Nat.{ℕ, _*_, _≤_, _<_}
+use lib.ListN.{length, getD}
+use lib.IntN.{ℤ, pos}
+use Rattle.ints.specs.Bounds.{Within}
+use Rattle.limits.specs.Limits.{corners, placedReach}
+use Rattle.space.specs.Verdicts.{Piece}
+
+-- n numbers are a corner list: three for each of 1 to 32 corners
+pub record LengthFits (n : ℕ) : Type 0 where
+  pub count : ℕ
+  pub least : 1 ≤ count
+  pub most : count ≤ corners
+  pub is : n ≡ 3 * count
+
+-- no number of the list is beyond ±reach
+pub record InReach (reach : ℕ) (s : Piece) : Type 0 where
+  pub all : (k : ℕ) → k < length s → Within reach (getD s k (pos 0))
+
+-- a reach that can be negated: not negative, and no larger than a placed corner's
+pub record Reach (reach : ℤ) : Type 0 where
+  pub size : ℕ
+  pub is : reach ≡ pos size
+  pub most : size ≤ placedReach
+
+-- a list of placed corners that no refusal meets
+pub record Placed (s : Piece) : Type 0 where
+  pub fits : LengthFits (length s)
+  pub near : InReach placedReach s
