@@ -9,7 +9,7 @@ use lib.ListN.{length, getD}
 use lib.IntN.{ℤ, pos, negsuc, negℤ, _+ℤ_, _-ℤ_, _*ℤ_}
 use lib.Signed.{_≤ℤ_, _<ℤ_, clashℤ}
 use Rattle.ints.specs.Quote.{sides, by-ring}
-use Rattle.ints.specs.Order.{le-or-lt, le-comb, lt-comb, nn-of-le, pos-of-lt, nn-add, nn-mul, nn-pos, lt→≤ℤ, <ℤ-neg, le-of-eq, <ℤ-cancel, <ℤ-add, lt-or-ge}
+use Rattle.ints.specs.Order.{le-or-lt, le-comb, lt-comb, nn-of-le, pos-of-lt, nn-add, nn-mul, nn-pos, lt→≤ℤ, <ℤ-neg, le-of-eq, <ℤ-cancel, <ℤ-add, ≤ℤ-trans, lt-or-ge}
 use Rattle.ints.specs.Bounds.{Within, known, within}
 use Rattle.limits.specs.Limits.{placedReach}
 use Rattle.space.specs.declared.Vec3.{Vec3}
@@ -85,7 +85,7 @@ pub most-kept : (f : ℕ → ℤ) (b i : ℕ) → ((k : ℕ) → k < i → f k �
 most-kept f b i h t k lt = ⊎-elim (λ (e : k < i). h k e) (λ (e : i ≤ k). let g : k ≡ i = omega arith in subst (λ j. f j ≤ℤ f b) (sym g) t) (lt-or-ge k i)
 
 pub most-taken : (f : ℕ → ℤ) (b i : ℕ) → ((k : ℕ) → k < i → f k ≤ℤ f b) → f b <ℤ f i → (k : ℕ) → k < i + 1 → f k ≤ℤ f i
-most-taken f b i h t k lt = ⊎-elim (λ (e : k < i). Rattle.ints.specs.Order.≤ℤ-trans (h k e) (lt→≤ℤ t)) (λ (e : i ≤ k). let g : k ≡ i = omega arith in le-of-eq (ap f g)) (lt-or-ge k i)
+most-taken f b i h t k lt = ⊎-elim (λ (e : k < i). ≤ℤ-trans (h k e) (lt→≤ℤ t)) (λ (e : i ≤ k). let g : k ≡ i = omega arith in le-of-eq (ap f g)) (lt-or-ge k i)
 
 -- ---- the sign of a coordinate of n: −1 where it is negative, else 1
 pub record SignOf (n s : ℤ) : Type 0 where
