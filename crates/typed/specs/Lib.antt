@@ -1,0 +1,7 @@
+pub mod Decimal
+pub mod DecimalLaws
+pub mod Says
+pub mod TypedLength
+pub mod TypedLaws
+pub mod Reading
+pub mod ReadingLaws
