@@ -1,6 +1,5 @@
 pub mod Decimal
 pub mod DecimalLaws
-pub mod Says
 pub mod TypedLength
 pub mod TypedLaws
 pub mod Reading

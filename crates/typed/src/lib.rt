@@ -1,12 +1,13 @@
 // Typed lengths: a text, as a person types it at the menu, to steps (document 01, "Lengths that arrive as text or as floats").
 // The text may be any bytes, of any length: what is not a typed length is refused by number.
 ghost use mathlib.Core.Path.{_≡_};
+ghost use mathlib.Core.Bool.{true};
+ghost use mathlib.Core.Logic.{_↔_};
 ghost use Prim.Native.Nat.{_≤_, _+_, _-_, _*_, _^_, min};
 ghost use lib.ListN.{length, drop};
 ghost use Rattle.limits.specs.Limits;
 ghost use Rattle.typed.specs.Decimal.{Digit, number};
 ghost use Rattle.typed.specs.DecimalLaws.{leading};
-ghost use Rattle.typed.specs.Says.{Says};
 ghost use Rattle.typed.specs.TypedLength.{CommaOrPoint, Answers};
 ghost use Rattle.typed.specs.Reading.{cut, judged, afterSeparator, afterWhole};
 
@@ -16,9 +17,10 @@ pub enum Typed {
     Refused(u8),
 }
 
-// Where a number that is read stops growing: no typed length has so many digits, and so it fits, however long the text is.
+// Steps to the millimetre, in the type that hundredths are counted in.
 const STEPS: u32 = limits::STEPS as u32;
 
+// Where a number that is read stops growing: no typed length has so many digits, and so it fits, however long the text is.
 const CUT: u32 = 1000000;
 
 // The digits that stand at a place: how many, and the number that they name, cut.
@@ -77,7 +79,7 @@ fn after_separator(text: &[u8], at: usize, whole: u32) -> Typed
 
 // "Both separators mean the same."
 fn is_separator(c: u8) -> bool
-    ensures { λ r. ⌜ Says r (CommaOrPoint c) ⌝ }
+    ensures { λ r. ⌜ ((r ≡ true) ↔ CommaOrPoint c) ⌝ }
 {
     if c == 44 {
         return true;
@@ -130,7 +132,7 @@ fn digits(text: &[u8], from: usize) -> Run
 }
 
 fn is_digit(b: u8) -> bool
-    ensures { λ r. ⌜ Says r (Digit b) ⌝ }
+    ensures { λ r. ⌜ ((r ≡ true) ↔ Digit b) ⌝ }
 {
     if b < 48 {
         return false;

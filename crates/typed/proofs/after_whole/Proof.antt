@@ -1,5 +1,6 @@
 -- `typed::after_whole` meets its contract: each return is one case of what may stand there.
-use mathlib.Core.Path.{_∙_}
+use mathlib.Core.Bool.{true≢false}
+use mathlib.Core.Path.{sym, _∙_}
 use borrow.Author.Needs.{needs}
 use Rattle.typed.specs.ReadingLaws.{whole-ends, separator-taken, separator-refused}
 use Rattle.typed.proofs.after_whole.Statement.{statement}
@@ -32,12 +33,12 @@ returns-2 : tie.Need-returns-2
 returns-2 c =
     let a = c .before .before .before .before .before .before .args in
     c .after-separator .ensures
-    ∙ separator-taken (a .whole) (a .text .now) (a .at) (search needs) (c .before .before .is-separator .ensures .so (c .before .if2 .taken))
+    ∙ separator-taken (a .whole) (a .text .now) (a .at) (search needs) (c .before .before .is-separator .ensures .0 (c .before .if2 .taken))
 
 returns-3 : tie.Need-returns-3
 returns-3 c =
     let a = c .before .before .before .before .before .args in
-    separator-refused (a .whole) (a .text .now) (a .at) (search needs) (c .before .is-separator .ensures .notSo (c .if2 .left))
+    separator-refused (a .whole) (a .text .now) (a .at) (search needs) (λ s. true≢false (sym (c .before .is-separator .ensures .1 s) ∙ c .if2 .left))
 
 pub after-whole-spec : {M : Type 1} → statement M
 after-whole-spec =

@@ -3,6 +3,7 @@
 use Prim.Native.Nat.{ℕ, suc, _≤_, _<_, _+_, _-_, _*_, min}
 use mathlib.Core.Path.{_≡_, sym, ap, _∙_}
 use mathlib.Core.List.{List, [], _∷_}
+use mathlib.Core.Bool.{false≢true}
 use borrow.Author.Needs.{needs}
 use borrow.Author.Tests.{not-true, not-false}
 use native.Mathlib.Numerals.{add-one}
@@ -57,10 +58,10 @@ returns c =
     let l = c .before .before .before .before in
     let s = l .before .before .args .text .now in
     ended s (l .before .before .args .from) (l .loop .value) (l .loop .i) (l .loop .inv)
-    (stop s (l .loop .i) (omega arith) (c .before .is-digit .ensures .notSo (not-true _ (c .if1 .taken))))
+    (stop s (l .loop .i) (omega arith) (λ d. false≢true (sym (not-true _ (c .if1 .taken)) ∙ c .before .is-digit .ensures .1 d)))
 
 one-more-requires : tie.Need-one-more-requires Inv-loop μ-loop
-one-more-requires c κs = (omega arith, c .before .is-digit .ensures .so (not-false _ (c .if1 .left)))
+one-more-requires c κs = (omega arith, c .before .is-digit .ensures .0 (not-false _ (c .if1 .left)))
 
 add-i : tie.Need-add-i Inv-loop μ-loop
 add-i c = omega arith
@@ -76,7 +77,7 @@ loop-again c =
     let i = l .loop .i in
     let v = l .loop .value in
     let b = getD s i 0 in
-    let m = more s i (omega arith) (c .before .before .is-digit .ensures .so (not-false _ (c .before .if1 .left))) in (
+    let m = more s i (omega arith) (c .before .before .is-digit .ensures .0 (not-false _ (c .before .if1 .left))) in (
       omega arith,
       omega arith,
       omega (arith, c .one-more .ensures),
