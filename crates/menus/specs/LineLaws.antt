@@ -30,16 +30,16 @@ lines-more b s n = if-neg (ℕ-discrete b 10) n _ _
 
 -- it is a cut of the text
 onto-cut : (b : ℕ) {s : List ℕ} {lines : List (List ℕ)} → (b ≡ 10 → ⊥) → Cut s lines → Cut (b ∷ s) (onto b lines)
-onto-cut b n (last {line = l} u) = last {line = b ∷ l} (n, u)
-onto-cut b n (cut {line = l} u c) = cut {line = b ∷ l} (n, u) c
+onto-cut b n (last l u) = last (b ∷ l) (n, u)
+onto-cut b n (cut l u c) = cut (b ∷ l) (n, u) c
 
 pub is-cut : (s : List ℕ) → Cut s (linesOf s)
 unfolding linesOf
-is-cut [] = last tt
+is-cut [] = last [] tt
 is-cut (b ∷ s) = go (ℕ-discrete b 10) (is-cut s)
   where
     go : (d : Dec (b ≡ 10)) → Cut s (linesOf s) → Cut (b ∷ s) (ite d ([] ∷ linesOf s) (onto b (linesOf s)))
-    go (yes e) c = subst (λ (x : ℕ). Cut (x ∷ s) ([] ∷ linesOf s)) (sym e) (cut {line = []} tt c)
+    go (yes e) c = subst (λ (x : ℕ). Cut (x ∷ s) ([] ∷ linesOf s)) (sym e) (cut [] tt c)
     go (no n) c = onto-cut b n c
 
 -- and there is no other
@@ -53,8 +53,8 @@ cut-lines [] rest u = lines-cut rest
 cut-lines (b ∷ line) rest u = lines-more b (line ++ 10 ∷ rest) (u .0) ∙ ap (onto b) (cut-lines line rest (u .1))
 
 pub cut-is : {s : List ℕ} {lines : List (List ℕ)} → Cut s lines → lines ≡ linesOf s
-cut-is (last {line = l} u) = sym (uncut-lines l u)
-cut-is (cut {line = l} {rest = r} u c) = ap (λ (ls : List (List ℕ)). l ∷ ls) (cut-is c) ∙ sym (cut-lines l r u)
+cut-is (last l u) = sym (uncut-lines l u)
+cut-is (cut l {rest = r} u c) = ap (λ (ls : List (List ℕ)). l ∷ ls) (cut-is c) ∙ sym (cut-lines l r u)
 
 -- ---- one line k, or none
 pub line-is : {s : List ℕ} {k start : ℕ} {line : List ℕ} → Line s k start line → (k < length (linesOf s)) × (start ≡ startIn (linesOf s) k) × (line ≡ getD (linesOf s) k [])

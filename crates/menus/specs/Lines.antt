@@ -14,8 +14,8 @@ Uncut (b ∷ line) = (b ≡ 10 → ⊥) × Uncut line
 
 -- "Text is cut at each byte 10, which belongs to no line; what follows the last one is a line too."
 pub data Cut : List ℕ → List (List ℕ) → Type 0 where
-  last : {line : List ℕ} → Uncut line → Cut line (line ∷ [])
-  cut : {line rest : List ℕ} {lines : List (List ℕ)} → Uncut line → Cut rest lines → Cut (line ++ 10 ∷ rest) (line ∷ lines)
+  last : (line : List ℕ) → Uncut line → Cut line (line ∷ [])
+  cut : (line : List ℕ) {rest : List ℕ} {lines : List (List ℕ)} → Uncut line → Cut rest lines → Cut (line ++ 10 ∷ rest) (line ∷ lines)
 
 -- where line k starts: the lines before it, and the byte 10 after each
 unfoldable pub startIn : List (List ℕ) → ℕ → ℕ

@@ -29,6 +29,7 @@ struct Run {
     value: u32,
 }
 
+// The length that a text means, in steps, or the refusal of a text that means none or too long a one.
 pub fn typed_length(text: &[u8]) -> Typed
     ensures { λ r. ⌜ Answers (now (text .entry)) r ⌝ }
 {
