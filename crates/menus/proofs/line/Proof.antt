@@ -1,0 +1,46 @@
+-- `menus::line` meets its contract: as many bytes as the first line of what is left has, from the line's start on, are line k.
+use Prim.Native.Nat.{ℕ, _+_}
+use mathlib.Core.Path.{_≡_, ap}
+use borrow.Author.Needs.{needs}
+use native.Mathlib.Omega.{arith}
+use Rattle.menus.specs.ScanLaws.{start-le, part-is, part-in}
+use Rattle.menus.proofs.line.Statement.{statement}
+use Rattle.menus.proofs.line.Tie as tie
+
+-- a place counted from the text's own, either way round
+shifted : (p : ℕ × ℕ) (a b : ℕ) → a ≡ b → _≡_ {A = ℕ × ℕ} (p .0, a + p .1) (p .0, p .1 + b)
+shifted p a b h = let e : a + p .1 ≡ p .1 + b = omega arith in ap (λ (n : ℕ). (p .0, n)) e
+
+line-start-requires : tie.Need-line-start-requires
+line-start-requires c κs = search needs
+
+line-end-requires : tie.Need-line-end-requires
+line-end-requires c κs = omega (arith, c .line-start .ensures, start-le (c .before .before .args .text .now) (c .before .before .args .k))
+
+sub-result : tie.Need-sub-result
+sub-result c = search needs
+
+part-result-start : tie.Need-part-result-start
+part-result-start c = search needs
+
+part-result-end : tie.Need-part-result-end
+part-result-end c =
+    let a = c .before .before .before .args in
+    part-in (a .text .now) (a .k) _ _ (c .before .line-start .ensures) (c .line-end .ensures)
+
+returns : tie.Need-returns
+returns c =
+    let a = c .before .before .before .before .args in
+    let s = c .before .before .line-start .ensures in
+    (part-is (a .text .now) (a .k) _ _ s (c .before .line-end .ensures), shifted (a .text .ptr) _ _ s)
+
+pub line-spec : {M : Type 1} → statement M
+line-spec =
+    tie.close
+    (tie.spec
+    line-start-requires
+    line-end-requires
+    sub-result
+    part-result-start
+    part-result-end
+    returns)

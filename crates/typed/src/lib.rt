@@ -1,0 +1,151 @@
+// Typed lengths: a text, as a person types it at the menu, to steps (document 01, "Lengths that arrive as text or as floats").
+// The text may be any bytes, of any length: what is not a typed length is refused by number.
+ghost use mathlib.Core.Path.{_≡_};
+ghost use mathlib.Core.Bool.{true};
+ghost use mathlib.Core.Logic.{_↔_};
+ghost use Prim.Native.Nat.{_≤_, _+_, _-_, _*_, _^_, min};
+ghost use lib.ListN.{length, drop};
+ghost use Rattle.limits.specs.Limits;
+ghost use Rattle.typed.specs.Decimal.{Digit, number};
+ghost use Rattle.typed.specs.DecimalLaws.{leading};
+ghost use Rattle.typed.specs.TypedLength.{CommaOrPoint, Answers};
+ghost use Rattle.typed.specs.Reading.{cut, judged, afterSeparator, afterWhole};
+
+// The answer to a text: steps, or the number of the refusal.
+pub enum Typed {
+    Steps(u32),
+    Refused(u8),
+}
+
+// Steps to the millimetre, in the type that hundredths are counted in.
+const STEPS: u32 = limits::STEPS as u32;
+
+// Where a number that is read stops growing: no typed length has so many digits, and so it fits, however long the text is.
+const CUT: u32 = 1000000;
+
+// The digits that stand at a place: how many, and the number that they name, cut.
+struct Run {
+    count: usize,
+    value: u32,
+}
+
+// The length that a text means, in steps, or the refusal of a text that means none or too long a one.
+pub fn typed_length(text: &[u8]) -> Typed
+    ensures { λ r. ⌜ Answers (now (text .entry)) r ⌝ }
+{
+    let whole = digits(text, 0);
+    let n = whole.count;
+    if n == 0 {
+        return Typed::Refused(limits::LENGTH_FORM);
+    }
+    if limits::WHOLE_DIGITS < n {
+        return Typed::Refused(limits::LENGTH_FORM);
+    }
+    after_whole(text, n, whole.value)
+}
+
+// After the whole digits: nothing, or a separator.
+fn after_whole(text: &[u8], at: usize, whole: u32) -> Typed
+    requires { ⌜ (at ≤ length (now text)) × (whole ≤ cut) ⌝ }
+    ensures { λ r. ⌜ r ≡ afterWhole whole (drop at (now (text .entry))) ⌝ }
+{
+    if at == text.len() {
+        return in_steps(whole * 100);
+    }
+    let c = text[at];
+    if is_separator(c) {
+        return after_separator(text, at + 1, whole);
+    }
+    Typed::Refused(limits::LENGTH_FORM)
+}
+
+// After the separator: digits to the text's end, at least one and few enough.
+fn after_separator(text: &[u8], at: usize, whole: u32) -> Typed
+    requires { ⌜ (at ≤ length (now text)) × (whole ≤ cut) ⌝ }
+    ensures { λ r. ⌜ r ≡ afterSeparator whole (drop at (now (text .entry))) ⌝ }
+{
+    let part = digits(text, at);
+    let k = part.count;
+    if k < text.len() - at {
+        return Typed::Refused(limits::LENGTH_FORM);
+    }
+    if k == 0 {
+        return Typed::Refused(limits::LENGTH_FORM);
+    }
+    if limits::PART_DIGITS < k {
+        return Typed::Refused(limits::LENGTH_FORM);
+    }
+    in_steps(whole * 100 + part.value * worth(k))
+}
+
+// "Both separators mean the same."
+fn is_separator(c: u8) -> bool
+    ensures { λ r. ⌜ ((r ≡ true) ↔ CommaOrPoint c) ⌝ }
+{
+    if c == 44 {
+        return true;
+    }
+    c == 46
+}
+
+// What the last of k digits after the separator is worth, in hundredths.
+fn worth(k: usize) -> u32
+    requires { ⌜ (1 ≤ k) × (k ≤ Limits.partDigits) ⌝ }
+    ensures value { λ r. ⌜ r ≡ 10 ^ (2 - k) ⌝ }
+    ensures most { λ r. ⌜ r ≤ 10 ⌝ }
+{
+    if k == 1 { 10 } else { 1 }
+}
+
+// Hundredths of a millimetre to steps, or out of range. Rounded up: one less than the divisor is added first.
+fn in_steps(h: u32) -> Typed
+    ensures { λ r. ⌜ r ≡ judged h ⌝ }
+{
+    if limits::MOST_HUNDREDTHS < h {
+        return Typed::Refused(limits::LENGTH_RANGE);
+    }
+    Typed::Steps((h * STEPS + 99) / 100)
+}
+
+// The digits from a place on.
+fn digits(text: &[u8], from: usize) -> Run
+    requires { ⌜ from ≤ length (now text) ⌝ }
+    ensures count { λ r. ⌜ r .count ≡ length (leading (drop from (now (text .entry)))) ⌝ }
+    ensures value { λ r. ⌜ r .value ≡ min (number (leading (drop from (now (text .entry))))) cut ⌝ }
+{
+    let mut value: u32 = 0;
+    let mut i = from;
+    while i < text.len() {
+        let b = text[i];
+        if !is_digit(b) {
+            return Run {
+                count: i - from,
+                value,
+            };
+        }
+        value = one_more(value, b);
+        i += 1;
+    }
+    Run {
+        count: i - from,
+        value,
+    }
+}
+
+fn is_digit(b: u8) -> bool
+    ensures { λ r. ⌜ ((r ≡ true) ↔ Digit b) ⌝ }
+{
+    if b < 48 {
+        return false;
+    }
+    b <= 57
+}
+
+// A number with one digit more behind it, cut.
+fn one_more(value: u32, b: u8) -> u32
+    requires { ⌜ (value ≤ cut) × Digit b ⌝ }
+    ensures { λ r. ⌜ r ≡ min (value * 10 + (b - 48)) cut ⌝ }
+{
+    let next = value * 10 + (b - 48) as u32;
+    if next < CUT { next } else { CUT }
+}
