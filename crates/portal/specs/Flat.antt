@@ -8,7 +8,7 @@ use lib.IntN.{ℤ, pos, negsuc, negℤ, _+ℤ_, _-ℤ_, _*ℤ_, *ℤ-zero}
 use Rattle.ints.specs.Quote.{sides, by-ring}
 use Rattle.ints.specs.Order.{zero-product, eq-comb, z-diff, z-add}
 use Rattle.space.specs.declared.Vec3.{Vec3}
-use Rattle.space.specs.Vectors.{dot, cross, minus, plus, scale, det, env1, origin, vec-eq}
+use Rattle.space.specs.Vectors.{dot, cross, minus, plus, scale, det, env1, origin, opposite, vec-eq}
 use Rattle.portal.specs.Portal.{ZeroSum, zero-sum-dot}
 
 -- coordinate by coordinate
@@ -107,10 +107,10 @@ had-plus s e f = vec-eq (r (s .x) (e .x) (f .x)) (r (s .y) (e .y) (f .y)) (r (s 
     r u v w = by-ring (u ∷ v ∷ w ∷ []) (search sides depth 9) refl
 
 -- ---- F2: the determinants of the table
-pub f2-plane : (c1 c2 e : Vec3) → det (plus c1 e) (plus c2 e) (minus c1 e) ≡ negsuc 1 *ℤ dot (cross c1 c2) e
+pub f2-plane : (c1 c2 e : Vec3) → det (plus c1 e) (plus c2 e) (plus c1 (opposite e)) ≡ negsuc 1 *ℤ dot (cross c1 c2) e
 f2-plane c1 c2 e = by-ring (env1 c1 (env1 c2 (env1 e []))) (search sides depth 40) refl
 
-pub f2-line : (c1 e f : Vec3) → det (plus (plus c1 e) f) (plus (minus c1 e) f) (minus (plus c1 e) f) ≡ pos 4 *ℤ det c1 e f
+pub f2-line : (c1 e f : Vec3) → det (plus c1 (plus e f)) (plus c1 (minus f e)) (plus c1 (minus e f)) ≡ pos 4 *ℤ det c1 e f
 f2-line c1 e f = by-ring (env1 c1 (env1 e (env1 f []))) (search sides depth 40) refl
 
 pub times-other : (k u : ℤ) → (k ≡ pos 0 → ⊥) → (u ≡ pos 0 → ⊥) → k *ℤ u ≡ pos 0 → ⊥

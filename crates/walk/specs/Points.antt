@@ -219,7 +219,7 @@ below-of {A} {B} g n h = record {
     twice a b = by-ring (env1 n (env1 a (env1 b (env1 g [])))) (search sides depth 40) refl
 
 -- with no box: the plain differences
-plain-at : (a b s : Vec3) → plus (minus a b) (had s origin) ≡ minus a b
+pub plain-at : (a b s : Vec3) → plus (minus a b) (had s origin) ≡ minus a b
 plain-at a b s = vec-eq (none (a .x -ℤ b .x) (s .x)) (none (a .y -ℤ b .y) (s .y)) (none (a .z -ℤ b .z) (s .z))
   where
     none : (u v : ℤ) → u +ℤ v *ℤ pos 0 ≡ u

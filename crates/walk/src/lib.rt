@@ -21,6 +21,9 @@ ghost use Rattle.space.specs.Ranges.{Upto, pointReach, shiftReach, normalReach}
 ghost use Rattle.space.specs.Verdicts.{cornerCount, cornerAt};
 ghost use Rattle.space.specs.Lists.{Placed};
 ghost use Rattle.walk.specs.Ends.{placesOf, Corners, Replaced, Ground, Begun, Walked};
+ghost use Rattle.limits.specs.Decides.{Decides};
+ghost use Rattle.portal.specs.Flat.{unit, nextAxis};
+ghost use Rattle.walk.specs.Frames.{differenceAt, Rows, Level, leftAt, rightAt, Sought, AxisOf, thickOf, pointFrame, OnLine, InPlane, Framed};
 ghost use Rattle.walk.specs.Points.{Farthest, Signed, Box, Boxed, Supports};
 
 // A point of the difference of two pieces, with the numbers of the two corners that it comes from.
@@ -212,5 +215,225 @@ fn walk(q: Vec3, f: Three, from: Portal, g: Vec3, first: &[i32], second: &[i32])
             };
         }
         t = replaced(t, s, p);
+    }
+}
+
+// What a scan of the differences found: the first that is not level with three rows.
+pub struct Found {
+    pub found: bool,
+    pub point: Point,
+}
+
+// Three independent points of the difference; where it is flat, a box that makes it thick, and a direction that it is level with.
+pub struct Frame {
+    pub solid: bool,
+    pub widths: Vec3,
+    pub a: Point,
+    pub b: Point,
+    pub c: Point,
+    pub flat: Vec3,
+}
+
+// Corner i of the first list less corner j of the second.
+fn difference(first: &[i32], second: &[i32], i: usize, j: usize) -> Point
+    requires { ⌜ Placed (now first) × Placed (now second) ⌝ }
+    requires { ⌜ (i < cornerCount (now first)) × (j < cornerCount (now second)) ⌝ }
+    ensures { λ r. ⌜ r ≡ differenceAt (now (first .entry)) (now (second .entry)) i j ⌝ }
+{
+    let a = corner(first, i);
+    let b = corner(second, j);
+    let at = minus(a, b);
+    Point {
+        at: at,
+        first: i,
+        second: j,
+    }
+}
+
+// Whether p is level with three rows.
+fn level(rows: Three, p: Vec3) -> bool
+    requires { ⌜ Rows rows × Upto pointReach p ⌝ }
+    ensures { λ r. ⌜ Decides r (Level rows p) ⌝ }
+{
+    let a = rows.a;
+    let b = rows.b;
+    let c = rows.c;
+    if dot(a, p) != 0 {
+        return false;
+    }
+    if dot(b, p) != 0 {
+        return false;
+    }
+    dot(c, p) == 0
+}
+
+// The two corners of turn k of the scan: every corner of the first list with the other's first, then the first with every one of the other.
+fn left_at(k: usize, m: usize) -> usize
+    ensures { λ r. ⌜ r ≡ leftAt k m ⌝ }
+{
+    if k < m {
+        return k;
+    }
+    0
+}
+
+fn right_at(k: usize, m: usize) -> usize
+    ensures { λ r. ⌜ r ≡ rightAt k m ⌝ }
+{
+    if k < m {
+        return 0;
+    }
+    k - m
+}
+
+// The first difference of the scan that is not level with three rows; where there is none, no difference of the two lists is.
+fn seek(rows: Three, first: &[i32], second: &[i32]) -> Found
+    requires { ⌜ Rows rows ⌝ }
+    requires { ⌜ Placed (now first) × Placed (now second) ⌝ }
+    ensures { λ r. ⌜ Sought rows (now (first .entry)) (now (second .entry)) r ⌝ }
+{
+    let m = first.len() / 3;
+    let n = second.len() / 3;
+    let mut k = 0;
+    while k < m + n {
+        let p = difference(first, second, left_at(k, m), right_at(k, m));
+        let y = p.at;
+        if !level(rows, y) {
+            return Found {
+                found: true,
+                point: p,
+            };
+        }
+        k += 1;
+    }
+    let p = difference(first, second, 0, 0);
+    Found {
+        found: false,
+        point: p,
+    }
+}
+
+// An axis along which v is not 0, where there is one.
+fn axis_of(v: Vec3) -> usize
+    requires { ⌜ Upto normalReach v ⌝ }
+    ensures { λ r. ⌜ AxisOf v r ⌝ }
+{
+    let x = v.x;
+    let y = v.y;
+    if x != 0 {
+        return 0;
+    }
+    if y != 0 {
+        return 1;
+    }
+    2
+}
+
+fn next_axis(j: usize) -> usize
+    ensures { λ r. ⌜ r ≡ nextAxis j ⌝ }
+{
+    if j == 0 {
+        return 1;
+    }
+    if j == 1 {
+        return 2;
+    }
+    0
+}
+
+fn unit(j: usize) -> Vec3
+    ensures { λ r. ⌜ (r ≡ unit j) × Upto 1 r ⌝ }
+{
+    if j == 0 {
+        return Vec3 { x: 1, y: 0, z: 0 };
+    }
+    if j == 1 {
+        return Vec3 { x: 0, y: 1, z: 0 };
+    }
+    Vec3 { x: 0, y: 0, z: 1 }
+}
+
+// p moved by w: still of the same two corners.
+fn thick(p: Point, w: Vec3) -> Point
+    requires { ⌜ Upto pointReach (p .at) × Upto pointReach w ⌝ }
+    ensures { λ r. ⌜ r ≡ thickOf p w ⌝ }
+{
+    let y = p.at;
+    let i = p.first;
+    let j = p.second;
+    let at = plus(y, w);
+    Point {
+        at: at,
+        first: i,
+        second: j,
+    }
+}
+
+// All differences are 0: a box along every axis.
+fn at_a_point() -> Frame
+    ensures { λ r. ⌜ r ≡ pointFrame ⌝ }
+{
+    let u = Vec3 { x: 1, y: 1, z: 1 };
+    let v = Vec3 { x: -1, y: 1, z: 1 };
+    let w = Vec3 { x: 1, y: -1, z: 1 };
+    let a = Point {
+        at: u,
+        first: 0,
+        second: 0,
+    };
+    let b = Point {
+        at: v,
+        first: 0,
+        second: 0,
+    };
+    let c = Point {
+        at: w,
+        first: 0,
+        second: 0,
+    };
+    let flat = Vec3 { x: 1, y: 0, z: 0 };
+    Frame {
+        solid: false,
+        widths: u,
+        a: a,
+        b: b,
+        c: c,
+        flat: flat,
+    }
+}
+
+// All differences are along a: a box along the two axes besides one of a's.
+fn on_a_line(a: Point) -> Frame
+    requires { ⌜ Upto 262144 (a .at) ⌝ }
+    ensures { λ r. ⌜ OnLine a r ⌝ }
+{
+    let y = a.at;
+    let j = next_axis(axis_of(y));
+    let e = unit(j);
+    let f = unit(next_axis(j));
+    let g = plus(e, f);
+    Frame {
+        solid: false,
+        widths: g,
+        a: thick(a, g),
+        b: thick(a, minus(f, e)),
+        c: thick(a, minus(e, f)),
+        flat: cross(y, e),
+    }
+}
+
+// All differences are in the plane of n, which is a × b: a box along an axis that leaves it.
+fn in_a_plane(a: Point, b: Point, n: Vec3) -> Frame
+    requires { ⌜ Upto 262144 (a .at) × Upto 262144 (b .at) × Upto normalReach n ⌝ }
+    ensures { λ r. ⌜ InPlane a b n r ⌝ }
+{
+    let e = unit(axis_of(n));
+    Frame {
+        solid: false,
+        widths: e,
+        a: thick(a, e),
+        b: thick(b, e),
+        c: thick(a, opposite(e)),
+        flat: n,
     }
 }
