@@ -149,9 +149,9 @@ drops-plane n e y t h = record {
 
 -- on the line of c, thick along e and f: y ↦ (y·(e×f)) c. A vector is along c where it is level with three rows
 abbrev pub lineRow : Vec3 → ℕ → Vec3
-lineRow c zero = vec (pos 0) (c .z) (negℤ (c .y))
-lineRow c (suc zero) = vec (negℤ (c .z)) (pos 0) (c .x)
-lineRow c (suc (suc j)) = vec (c .y) (negℤ (c .x)) (pos 0)
+lineRow c zero = vec (pos 0) (c .z) (pos 0 -ℤ c .y)
+lineRow c (suc zero) = vec (pos 0 -ℤ c .z) (pos 0) (c .x)
+lineRow c (suc (suc j)) = vec (c .y) (pos 0 -ℤ c .x) (pos 0)
 
 pub drops-line : (c e f y : Vec3) (t u : ℤ) → dot (lineRow c 0) y ≡ pos 0 → dot (lineRow c 1) y ≡ pos 0 → dot (lineRow c 2) y ≡ pos 0
     → Drops (det e f c) (scale (c .x) (cross e f)) (scale (c .y) (cross e f)) (scale (c .z) (cross e f)) (plus y (plus (scale t e) (scale u f))) y

@@ -484,3 +484,52 @@ zero-decided {z} {C} w f g = go (eqb (ofZ w64 z) 0) refl
 pub frame-eq : {s : Bool} {w w′ d d′ : Vec3} {a a′ b b′ c c′ : Point} → w ≡ w′ → a ≡ a′ → b ≡ b′ → c ≡ c′ → d ≡ d′
     → _≡_ {A = Frame} (record { solid = s; widths = w; a = a; b = b; c = c; flat = d }) (record { solid = s; widths = w′; a = a′; b = b′; c = c′; flat = d′ })
 frame-eq {s} ew ea eb ec ed = λ i. record { solid = s; widths = ew i; a = ea i; b = eb i; c = ec i; flat = ed i }
+
+-- ---- the three scans
+abbrev pub planeRows : Vec3 → Three
+planeRows n = record { a = n; b = n; c = n }
+
+-- what the second scan begins with: a difference that is not the origin
+pub record Some (A B : Piece) (a : Point) : Type 0 where
+  pub tagged : Tagged A B origin a
+  pub other : a .at ≡ origin → ⊥
+
+-- and the third: two that are not along one line
+pub record Wide (A B : Piece) (a b : Point) : Type 0 where
+  pub tagged-a : Tagged A B origin a
+  pub tagged-b : Tagged A B origin b
+  pub other : cross (a .at) (b .at) ≡ origin → ⊥
+
+pub some-of : {A B : Piece} {rows : Three} {r : Found} → rows ≡ unitRows → Sought rows A B r → r .found ≡ true → Some A B (r .point)
+some-of {r} er s e = record { tagged = s .tagged e; other = not-origin (r .point .at) (λ l. s .apart e (subst (λ w. Level w (r .point .at)) (sym er) l)) }
+
+pub wide-of : {A B : Piece} {a : Point} {rows : Three} {r : Found} → Some A B a → rows ≡ lineRows (a .at) → Sought rows A B r → r .found ≡ true → Wide A B a (r .point)
+wide-of {a} {r} h er s e = record { tagged-a = h .tagged; tagged-b = s .tagged e; other = not-along (a .at) (r .point .at) (λ l. s .apart e (subst (λ w. Level w (r .point .at)) (sym er) l)) }
+
+pub level-is : {A B : Piece} {rows w : Three} → rows ≡ w → AllLevel rows A B → AllLevel w A B
+level-is {A} {B} e h = subst (λ r. AllLevel r A B) e h
+
+-- the product of two differences
+pub cross-near : {A B : Piece} {a b : Point} {n : Vec3} → Placed A → Placed B → Wide A B a b → n ≡ cross (a .at) (b .at) → Upto 137438953472 n
+cross-near {a} {b} pa pb h e = subst (Upto 137438953472) (sym e) (go (a .at) (b .at) (tagged-upto pa pb (h .tagged-a)) (tagged-upto pa pb (h .tagged-b)))
+  where
+    go : (u v : Vec3) → Upto 262144 u → Upto 262144 v → Upto 137438953472 (cross u v)
+    go u v hu hv = record { ux = within (search known depth 9) tt; uy = within (search known depth 9) tt; uz = within (search known depth 9) tt }
+
+-- ---- the four frames, from what the scans found
+pub framed-at-a-point : {A B : Piece} {rows : Three} {r : Found} {f : Frame} → Placed A → Placed B → rows ≡ unitRows → Sought rows A B r → r .found ≡ false → f ≡ pointFrame → Framed A B f
+framed-at-a-point {A} {B} pa pb er s e ef = subst (Framed A B) (sym ef) (framed-point pa pb (level-is er (s .none e)))
+
+pub framed-on-a-line : {A B : Piece} {a : Point} {rows : Three} {r : Found} {f : Frame} → Placed A → Placed B → Some A B a → rows ≡ lineRows (a .at) → Sought rows A B r → r .found ≡ false → OnLine a f → Framed A B f
+framed-on-a-line {A} {B} pa pb h er s e l = subst (Framed A B) (sym (l .is)) (framed-line (l .axis-is) (h .tagged) (tagged-upto pa pb (h .tagged)) (l .of .other (h .other)) (level-is er (s .none e)))
+
+pub framed-in-a-plane : {A B : Piece} {a b : Point} {n : Vec3} {rows : Three} {r : Found} {f : Frame} → Placed A → Placed B → Wide A B a b → n ≡ cross (a .at) (b .at) → rows ≡ planeRows n → Sought rows A B r → r .found ≡ false → InPlane a b n f → Framed A B f
+framed-in-a-plane {A} {B} pa pb h en er s e l = subst (Framed A B) (sym (l .is)) (framed-plane (l .axis-is) (h .tagged-a) (h .tagged-b) en (upto-le tt (cross-near pa pb h en)) (l .of .other (λ z. h .other (sym en ∙ z))) (level-is er (s .none e)))
+
+pub framed-solid-of : {A B : Piece} {a b : Point} {n : Vec3} {rows : Three} {r : Found} → Wide A B a b → n ≡ cross (a .at) (b .at) → rows ≡ planeRows n → Sought rows A B r → r .found ≡ true → Framed A B (solidFrame a b (r .point))
+framed-solid-of {A} {B} {a} {b} {n} {r} h en er s e = framed-solid (h .tagged-a) (h .tagged-b) (s .tagged e)
+    (λ z. s .apart e (subst (λ w. Level w (r .point .at)) (sym er) (let k = ap (λ v. dot v (r .point .at)) en ∙ z in record { one = k; two = k; three = k })))
+
+pub rows-made : {a a′ b b′ c c′ : Vec3} → (a ≡ a′) × Upto normalReach a → (b ≡ b′) × Upto normalReach b → (c ≡ c′) × Upto normalReach c
+    → (_≡_ {A = Three} (record { a = a; b = b; c = c }) (record { a = a′; b = b′; c = c′ })) × Rows (record { a = a; b = b; c = c })
+rows-made p q r = (λ i. record { a = p .0 i; b = q .0 i; c = r .0 i }, record { one = p .1; two = q .1; three = r .1 })

@@ -23,7 +23,7 @@ ghost use Rattle.space.specs.Lists.{Placed};
 ghost use Rattle.walk.specs.Ends.{placesOf, Corners, Replaced, Ground, Begun, Walked};
 ghost use Rattle.limits.specs.Decides.{Decides};
 ghost use Rattle.portal.specs.Flat.{unit, nextAxis};
-ghost use Rattle.walk.specs.Frames.{differenceAt, Rows, Level, leftAt, rightAt, Sought, AxisOf, thickOf, pointFrame, OnLine, InPlane, Framed};
+ghost use Rattle.walk.specs.Frames.{differenceAt, Rows, Level, leftAt, rightAt, Sought, AxisOf, thickOf, pointFrame, OnLine, InPlane, unitRows, lineRows, planeRows, Some, Wide, Framed};
 ghost use Rattle.walk.specs.Points.{Farthest, Signed, Box, Boxed, Supports};
 
 // A point of the difference of two pieces, with the numbers of the two corners that it comes from.
@@ -436,4 +436,91 @@ fn in_a_plane(a: Point, b: Point, n: Vec3) -> Frame
         c: thick(a, opposite(e)),
         flat: n,
     }
+}
+
+// Rows that only the origin is level with.
+fn unit_rows() -> Three
+    ensures { λ r. ⌜ (r ≡ unitRows) × Rows r ⌝ }
+{
+    let a = Vec3 { x: 1, y: 0, z: 0 };
+    let b = Vec3 { x: 0, y: 1, z: 0 };
+    let c = Vec3 { x: 0, y: 0, z: 1 };
+    Three { a: a, b: b, c: c }
+}
+
+// Rows that only what is along c is level with.
+fn line_rows(v: Vec3) -> Three
+    requires { ⌜ Upto 262144 v ⌝ }
+    ensures { λ r. ⌜ (r ≡ lineRows v) × Rows r ⌝ }
+{
+    let x = v.x;
+    let y = v.y;
+    let z = v.z;
+    let a = Vec3 { x: 0, y: z, z: -y };
+    let b = Vec3 { x: -z, y: 0, z: x };
+    let c = Vec3 { x: y, y: -x, z: 0 };
+    Three { a: a, b: b, c: c }
+}
+
+// Rows that only what is in the plane of n is level with.
+fn plane_rows(n: Vec3) -> Three
+    requires { ⌜ Upto normalReach n ⌝ }
+    ensures { λ r. ⌜ (r ≡ planeRows n) × Rows r ⌝ }
+{
+    Three { a: n, b: n, c: n }
+}
+
+// The frame, once two differences are known that are not along one line.
+fn frame_in_space(a: Point, b: Point, first: &[i32], second: &[i32]) -> Frame
+    requires { ⌜ Placed (now first) × Placed (now second) ⌝ }
+    requires { ⌜ Wide (now first) (now second) a b ⌝ }
+    ensures { λ r. ⌜ Framed (now (first .entry)) (now (second .entry)) r ⌝ }
+{
+    let u = a.at;
+    let v = b.at;
+    let n = cross(u, v);
+    let s = seek(plane_rows(n), first, second);
+    let found = s.found;
+    if found {
+        let c = s.point;
+        return Frame {
+            solid: true,
+            widths: Vec3 { x: 0, y: 0, z: 0 },
+            a: a,
+            b: b,
+            c: c,
+            flat: Vec3 { x: 0, y: 0, z: 0 },
+        };
+    }
+    in_a_plane(a, b, n)
+}
+
+// The frame, once one difference is known that is not the origin.
+fn frame_off_the_point(a: Point, first: &[i32], second: &[i32]) -> Frame
+    requires { ⌜ Placed (now first) × Placed (now second) ⌝ }
+    requires { ⌜ Some (now first) (now second) a ⌝ }
+    ensures { λ r. ⌜ Framed (now (first .entry)) (now (second .entry)) r ⌝ }
+{
+    let v = a.at;
+    let s = seek(line_rows(v), first, second);
+    let found = s.found;
+    if found {
+        let b = s.point;
+        return frame_in_space(a, b, first, second);
+    }
+    on_a_line(a)
+}
+
+// Three independent points of the difference of two lists, thick where it is flat.
+fn frame_of(first: &[i32], second: &[i32]) -> Frame
+    requires { ⌜ Placed (now first) × Placed (now second) ⌝ }
+    ensures { λ r. ⌜ Framed (now (first .entry)) (now (second .entry)) r ⌝ }
+{
+    let s = seek(unit_rows(), first, second);
+    let found = s.found;
+    if found {
+        let a = s.point;
+        return frame_off_the_point(a, first, second);
+    }
+    at_a_point()
 }
