@@ -10,7 +10,9 @@ use Rattle.limits.specs.Limits
 use Rattle.scans.specs.declared.Scan.{Scan}
 use Rattle.scans.specs.Floats.{signed, NotFinite, NotWhole}
 use Rattle.scans.specs.Scanned.{ScannedAs, Taken}
-use Rattle.scans.proofs.Sized.{Sized, finite, in-steps, far, near}
+use Rattle.scans.specs.Signs.{natAbs-signed}
+use Rattle.scans.specs.Exactly.{beyond, not-beyond}
+use Rattle.scans.proofs.Sized.{Sized, finite, in-steps}
 
 abbrev pub refused : ℕ → Scan
 refused n = record { number = n; steps = pos 0 }
@@ -24,12 +26,12 @@ not-whole h = record { number = inr (h .0, inl (h, refl)); steps = λ e. absurd 
 -- n steps, in range or not
 pub whole : {x : Float} {s : Bool} {n : ℕ} {r : Scan} → Sized x s n 1 → Taken s n r → ScannedAs x r
 whole {x} {s} {n} v (inl t) = subst (ScannedAs x) (sym (t .1)) (record {
-  number = inr (finite v, inr ((λ w. w .1 (signed s n) (in-steps v)), inl (far v (t .0), refl)));
+  number = inr (finite v, inr ((λ w. w .1 (signed s n) (in-steps v)), inl (beyond x (signed s n) (in-steps v) (rw (natAbs-signed s n) (t .0)), refl)));
   steps = λ e. absurd (omega arith);
   zero = λ _. refl;
 })
 whole {x} {s} {n} v (inr t) = subst (ScannedAs x) (sym (t .1)) (record {
-  number = inr (finite v, inr ((λ w. w .1 (signed s n) (in-steps v)), inr (near v (t .0), refl)));
+  number = inr (finite v, inr ((λ w. w .1 (signed s n) (in-steps v)), inr (not-beyond x (signed s n) (in-steps v) (rw (natAbs-signed s n) (t .0)), refl)));
   steps = λ _. in-steps v;
   zero = λ f. absurd (f refl);
 })

@@ -1,16 +1,16 @@
 -- Floats as fractions of steps: `Sized x s a c` says that x is finite, has the sign s, and is a / c steps in size.
--- The laws say what that makes of x: how many steps it is, that it is no whole number of them, that it is out of range.
-use Prim.Native.Nat.{ℕ, _+_, _*_, _/_, _%_, _≤_, _<_}
+-- The laws say what that makes of x: how many steps it is, or that it is no whole number of them.
+use Prim.Native.Nat.{ℕ, _+_, _*_, _/_, _%_, _<_}
 use mathlib.Core.Path.{_≡_, refl, sym, ap, _∙_, subst}
 use mathlib.Core.Bool.{Bool, true, false}
 use native.Mathlib.Omega.{arith}
-use native.Mathlib.Nat.{mul-right-comm, mul-one, mul-mod-left, eq-of-mul-eq-mul-right, mul-lt-mul-of-pos-right, mul-le-mul-right, mod-eq-of-lt, div-add-mod', add-zero}
+use native.Mathlib.Nat.{mul-right-comm, mul-one, mul-mod-left, eq-of-mul-eq-mul-right, mod-eq-of-lt, div-add-mod', add-zero}
 use lib.IntN.{ℤ, pos, natAbs, _*ℤ_}
 use lib.Ieee.{Float, nan, inf, fin, up, down}
 use lib.Ieee.Fits.{down-pos}
 use lib.Ieee.Exact.{HasValue}
 use Rattle.ints.specs.Laws.{negℤ-*ℤ}
-use Rattle.scans.specs.Floats.{signed, InSteps, NotFinite, NotWhole, Beyond}
+use Rattle.scans.specs.Floats.{signed, InSteps, NotFinite, NotWhole}
 use Rattle.scans.specs.Signs.{size-of}
 
 pub data Sized : Float → Bool → ℕ → ℕ → Type 0 where
@@ -60,15 +60,6 @@ signed-mul false n d = refl
 
 pub in-steps : {x : Float} {s : Bool} {n : ℕ} → Sized x s n 1 → InSteps x (signed s n)
 in-steps {s} {n} (sized {m} {e} v) = ap (signed s) (sym (mul-one (m * up e * 64)) ∙ v) ∙ signed-mul s n (down e)
-
-pub far : {x : Float} {s : Bool} {n : ℕ} → Sized x s n 1 → 65536 < n → Beyond x
-far (sized {m} {e} v) h = subst (λ (k : ℕ). 65536 * down e < k) (sym (sym (mul-one (m * up e * 64)) ∙ v)) (mul-lt-mul-of-pos-right h (down-pos e))
-
-pub near : {x : Float} {s : Bool} {n : ℕ} → Sized x s n 1 → n ≤ 65536 → Beyond x → ⊥
-near (sized {m} {e} v) h b =
-    let k = subst (λ (k : ℕ). 65536 * down e < k) (sym (mul-one (m * up e * 64)) ∙ v) b in
-    let l = mul-le-mul-right (down e) h in
-    omega arith
 
 -- a fraction that leaves nothing
 pub quotient : {x : Float} {s : Bool} {a c : ℕ} → 0 < c → a % c ≡ 0 → Sized x s a c → Sized x s (a / c) 1

@@ -5,3 +5,4 @@ pub mod Shown
 pub mod Signs
 pub mod Lower
 pub mod Once
+pub mod Exactly

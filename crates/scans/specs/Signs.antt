@@ -28,9 +28,12 @@ sign-of true n d (pos (suc k)) h f e = absurd (plus n (mul-pos (omega arith) h) 
     plus (suc n) {k} h e = pos-ne-negsuc k n (sym e)
 sign-of false n d (negsuc k) h f e = absurd (not-minus n (suc k * d) (mul-pos (omega arith) h) e)
 
+pub natAbs-signed : (s : Bool) (n : ℕ) → natAbs (signed s n) ≡ n
+natAbs-signed true n = natAbs-neg (pos n)
+natAbs-signed false n = refl
+
 pub size-of : (s : Bool) (n d : ℕ) (z : ℤ) → signed s n ≡ z *ℤ pos d → n ≡ natAbs z * d
-size-of true n d z e = sym (natAbs-neg (pos n)) ∙ ap natAbs e ∙ natAbs-mul z (pos d)
-size-of false n d z e = ap natAbs e ∙ natAbs-mul z (pos d)
+size-of s n d z e = sym (natAbs-signed s n) ∙ ap natAbs e ∙ natAbs-mul z (pos d)
 
 -- a number is its size with its sign
 pub own : (z : ℤ) → signed (below z) (natAbs z) ≡ z
