@@ -25,7 +25,7 @@ use Rattle.scans.specs.declared.Scanned.{Scanned}
 use Rattle.scans.specs.declared.Millimetres.{Millimetres}
 
 -- a number is 0, or it is not
-zero-or : (n : ℕ) → (n ≡ 0) ⊎ (n ≡ 0 → ⊥)
+pub zero-or : (n : ℕ) → (n ≡ 0) ⊎ (n ≡ 0 → ⊥)
 zero-or zero = inl refl
 zero-or (suc n) = inr (λ e. omega arith)
 
