@@ -1,4 +1,5 @@
 -- A size's sign by its steps, and the refusals of three sizes by those of the point that they are.
+-- A size is refused by its float, and the code asks its steps: these laws join the two.
 use Prim.Native.Nat.{zero, suc, _*_, _≤_, _<_}
 use mathlib.Core.Path.{_≡_, refl, sym, ap, subst}
 use mathlib.Core.Bool.{Bool, true, false, _&&_}
@@ -15,7 +16,7 @@ use Rattle.limits.specs.Lowest.{Lowest}
 use Rattle.scans.specs.Floats.{InSteps, refusals}
 use Rattle.scans.specs.Scanned.{One, PointAs}
 use Rattle.scans.specs.Signs.{sign-of, size-of}
-use Rattle.scans.specs.Exactly.{none-applies}
+use Rattle.scans.specs.TakenWhen.{none-applies}
 use Rattle.scans.specs.declared.Scanned.{Scanned}
 use Rattle.blanks.specs.Blanks.{ZeroOrLess, sizeRefusals}
 use Rattle.blanks.specs.Chosen.{allPositive, point, SizesAs}

@@ -1,4 +1,5 @@
--- Writing a table's entries one after the other.
+-- Writing a table's letters one after the other, as the sizes that they stand for.
+-- What stands in the room after i letters is a function of the table's first i letters, whatever the table.
 use Prim.Native.Nat.{ℕ, zero, suc, _+_, _<_}
 use mathlib.Core.Path.{_≡_, refl, ap, _∙_}
 use mathlib.Core.List.{List, [], _∷_, _++_, append-assoc}

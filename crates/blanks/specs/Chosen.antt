@@ -1,4 +1,5 @@
 -- What the helpers of this crate give: the sizes that a table's letters stand for, and the three sizes in steps.
+-- The contract of `corners` cites nothing of this file.
 use Prim.Native.Nat.{ℕ}
 use mathlib.Core.Path.{_≡_}
 use mathlib.Core.Bool.{Bool, _&&_, cond}

@@ -1,4 +1,5 @@
 -- Determinacy: any two answers that the contract of `corners` allows are equal, and so is the room that they leave.
+-- The sizes in steps are not in the answer, but a float is only one number of steps.
 use Prim.Native.Nat.{ℕ, _<_}
 use mathlib.Core.Path.{_≡_, sym, ap, _∙_}
 use mathlib.Core.Logic.{_⊎_, ⊎-elim}

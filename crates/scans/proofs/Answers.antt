@@ -1,4 +1,5 @@
 -- From a float's size to the answer that it may get.
+-- Each law is the answer of one way out of `scan_pattern`.
 use Prim.Native.Nat.{ℕ}
 use mathlib.Core.Path.{_≡_, refl, sym, subst}
 use mathlib.Core.Bool.{Bool, true, false}
@@ -11,7 +12,7 @@ use Rattle.scans.specs.declared.Scan.{Scan}
 use Rattle.scans.specs.Floats.{signed, NotFinite, NotWhole}
 use Rattle.scans.specs.Scanned.{ScannedAs, Taken}
 use Rattle.scans.specs.Signs.{natAbs-signed}
-use Rattle.scans.specs.Exactly.{beyond, not-beyond}
+use Rattle.scans.specs.TakenWhen.{beyond, not-beyond}
 use Rattle.scans.proofs.Sized.{Sized, finite, in-steps}
 
 abbrev pub refused : ℕ → Scan

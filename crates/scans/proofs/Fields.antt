@@ -1,4 +1,5 @@
 -- What the fields of a bit pattern say of the float's size in steps: s is the sign, f the exponent's field, t the digits below the leading one.
+-- The exponent of one step is 121, and 144 that of a last digit that counts whole steps.
 use Prim.Native.Nat.{ℕ, zero, suc, _+_, _-_, _*_, _/_, _%_, _^_, _≤_, _<_}
 use mathlib.Core.Path.{_≡_, refl, sym, ap, _∙_, subst}
 use mathlib.Core.Bool.{Bool, true, false, cond}

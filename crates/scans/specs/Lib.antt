@@ -5,4 +5,4 @@ pub mod Shown
 pub mod Signs
 pub mod Lower
 pub mod Once
-pub mod Exactly
+pub mod TakenWhen

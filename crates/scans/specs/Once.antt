@@ -1,4 +1,5 @@
 -- Determinacy: any two answers that a contract of this crate allows are equal, the float shown included.
+-- For the float shown this is equality of the value and of its sign, since a format writes each in one way.
 use Prim.Native.Nat.{ℕ, zero, suc, _+_, _-_, _*_, _/_, _^_, _<_}
 use mathlib.Core.Path.{_≡_, refl, sym, ap, _∙_}
 use mathlib.Core.Bool.{Bool, cond}

@@ -1,4 +1,5 @@
 -- What `z` steps say of a float's sign and of its size, each side of "value times 64 is z" being a whole number with its sign.
+-- The laws are over any size n and any divisor d, so that they serve a float and its parts alike.
 use Prim.Native.Nat.{ℕ, zero, suc, _*_, _<_}
 use mathlib.Core.Path.{_≡_, refl, sym, ap, _∙_}
 use mathlib.Core.Bool.{Bool, true, false}

@@ -1,4 +1,5 @@
 -- "A float is taken exactly when its value times 64 is a whole number within ±65,536" (document 01): the sentence itself, as a law of what a scan may answer.
+-- With it, what the three refusals and the range come to for a float that is a whole number of steps.
 use Prim.Native.Nat.{ℕ, _*_, _≤_, _<_}
 use mathlib.Core.Path.{_≡_, sym, subst}
 use mathlib.Core.Logic.{inl, inr, ⊎-elim}
