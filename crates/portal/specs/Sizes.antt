@@ -6,6 +6,7 @@ use lib.Dec.{T, ltb, leb, le→leb}
 use lib.IntN.{ℤ, pos, negsuc, negℤ, natAbs, _+ℤ_, _-ℤ_, _*ℤ_}
 use lib.Signed.{_≤ℤ_, _<ℤ_}
 use Rattle.ints.specs.Quote.{sides, by-ring}
+use Rattle.ints.specs.Order.{nn-factor, pos-mul}
 use Rattle.ints.specs.Bounds.{Within, known, within, within-upper}
 use Rattle.space.specs.declared.Vec3.{Vec3}
 use Rattle.space.specs.Vectors.{dot, cross, minus, plus, scale, det, normal, env1, origin}
@@ -131,3 +132,8 @@ start c1 c2 c3 d = k5 bigL c1 c2 c3 posL d
 pub start-turned : (c1 c2 c3 : Vec3) → pos 0 <ℤ det c1 c2 c3 → Inv c1 c3 c2 (beam c1 c2 c3)
 unfolding beam
 start-turned c1 c2 c3 d = k5-turned bigL c1 c2 c3 posL d
+
+-- where the shift is by nothing, a determinant has the sign of the plain one
+pub plain-nn : (p b c : Vec3) → pos 0 ≤ℤ det (hat origin p) (hat origin b) (hat origin c) → pos 0 ≤ℤ det p b c
+unfolding hat
+plain-nn p b c h = nn-factor {a = bigK *ℤ (bigK *ℤ bigK)} {b = det p b c} (pos-mul posK (pos-mul posK posK)) (subst (λ z. pos 0 ≤ℤ z) (by-ring (bigK ∷ env1 p (env1 b (env1 c []))) (search sides depth 40) refl) h)

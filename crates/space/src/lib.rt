@@ -17,8 +17,8 @@ pub struct Vec3 {
 
 // A corner of the first piece and one of the second, by their numbers, and the weight of their difference.
 pub struct Pair {
-    pub first: u8,
-    pub second: u8,
+    pub first: usize,
+    pub second: usize,
     pub weight: i64,
 }
 

@@ -2,10 +2,14 @@
 // No tolerance and no limit on the turns: a measure falls with each of them (specs/Ends.antt).
 use portal::Three;
 use portal::step;
+use space::Pair;
 use space::Vec3;
 use space::cross;
+use space::det;
 use space::dot;
 use space::first_of;
+use space::in_reach;
+use space::length_fits;
 use space::minus;
 use space::opposite;
 use space::plus;
@@ -16,14 +20,18 @@ ghost use lib.Signed.{ltZ};
 ghost use Rattle.ints.specs.Sign.{lex};
 ghost use Rattle.ints.specs.Bounds.{Within};
 ghost use Rattle.limits.specs.Limits.{placedReach};
-ghost use Rattle.space.specs.Vectors.{dot, normal};
-ghost use Rattle.space.specs.Ranges.{Upto, pointReach, shiftReach, normalReach};
+ghost use Rattle.space.specs.Vectors.{dot, det, normal, origin};
+ghost use Rattle.space.specs.Ranges.{Upto, pointReach, shiftReach, normalReach, weightReach};
 ghost use Rattle.space.specs.Verdicts.{cornerCount, cornerAt};
 ghost use Rattle.space.specs.Lists.{Placed};
 ghost use Rattle.walk.specs.Ends.{placesOf, Corners, Replaced, Ground, Begun, Walked};
 ghost use Rattle.limits.specs.Decides.{Decides};
 ghost use Rattle.portal.specs.Flat.{unit, nextAxis};
 ghost use Rattle.walk.specs.Frames.{differenceAt, Rows, Level, leftAt, rightAt, Sought, AxisOf, thickOf, pointFrame, OnLine, InPlane, unitRows, lineRows, planeRows, Some, Wide, Framed};
+ghost use Rattle.walk.specs.Answers.{noPair, noPairs, nothing, BadLength, OutOfReach, Carries, Answers};
+ghost use Rattle.walk.specs.Gather.{nothingYet, Pushed, Room};
+ghost use Rattle.portal.specs.Exits.{sum3};
+ghost use Rattle.walk.specs.Judged.{framePlaces, Started, Weighed, Near, MeetingAt, Tells, BothFit, BothNear};
 ghost use Rattle.walk.specs.Points.{Farthest, Signed, Box, Boxed, Supports};
 
 // A point of the difference of two pieces, with the numbers of the two corners that it comes from.
@@ -523,4 +531,254 @@ fn frame_of(first: &[i32], second: &[i32]) -> Frame
         return frame_off_the_point(a, first, second);
     }
     at_a_point()
+}
+
+// The answer to the pair question: a refusal's number and nothing else, or 0 and the verdict with what it carries.
+pub struct Answer {
+    pub number: u8,
+    pub verdict: u8,
+    pub direction: Vec3,
+    pub count: usize,
+    pub pairs: [Pair; 4],
+}
+
+// The pairs of a meeting: the first `count` of four.
+pub struct Gathered {
+    pub count: usize,
+    pub pairs: [Pair; 4],
+}
+
+// A refusal: its number, and every other value zero.
+fn refused(number: u8) -> Answer
+    ensures { λ r. ⌜ r ≡ nothing number ⌝ }
+{
+    Answer {
+        number: number,
+        verdict: 0,
+        direction: no_direction(),
+        count: 0,
+        pairs: no_pairs(),
+    }
+}
+
+fn no_pair() -> Pair
+    ensures { λ r. ⌜ r ≡ noPair ⌝ }
+{
+    Pair {
+        first: 0,
+        second: 0,
+        weight: 0,
+    }
+}
+
+fn no_pairs() -> [Pair; 4]
+    ensures { λ r. ⌜ r ≡ noPairs ⌝ }
+{
+    let p = no_pair();
+    [p, p, p, p]
+}
+
+fn nothing_yet() -> Gathered
+    ensures { λ r. ⌜ r ≡ nothingYet ⌝ }
+{
+    Gathered {
+        count: 0,
+        pairs: no_pairs(),
+    }
+}
+
+// One point more with its weight, unless it weighs nothing.
+fn push(g: Gathered, p: Point, w: i64) -> Gathered
+    requires { ⌜ Room 3 g ⌝ }
+    requires { ⌜ Within weightReach w ⌝ }
+    ensures { λ r. ⌜ Pushed g p w r ⌝ }
+{
+    if w == 0 {
+        return g;
+    }
+    let at = g.count;
+    let first = p.first;
+    let second = p.second;
+    let mut pairs = g.pairs;
+    pairs[at] = Pair {
+        first: first,
+        second: second,
+        weight: w,
+    };
+    Gathered {
+        count: at + 1,
+        pairs: pairs,
+    }
+}
+
+// The pairs of a meeting: the last point and the portal's three, with the weights that balance them.
+fn gathered_of(e: Ended) -> Gathered
+    requires { ⌜ Near e ⌝ }
+    ensures { λ r. ⌜ Weighed e r ⌝ }
+{
+    let t = e.portal;
+    let p = e.last;
+    let a = t.a;
+    let b = t.b;
+    let c = t.c;
+    let x = a.at;
+    let y = b.at;
+    let z = c.at;
+    let v = p.at;
+    let one = push(nothing_yet(), p, 0 - det(x, y, z));
+    let two = push(one, a, det(v, y, z));
+    let three = push(two, b, det(x, v, z));
+    push(three, c, det(x, y, v))
+}
+
+fn frame_places(f: Frame) -> Three
+    ensures { λ r. ⌜ r ≡ framePlaces f ⌝ }
+{
+    let a = f.a;
+    let b = f.b;
+    let c = f.c;
+    let x = a.at;
+    let y = b.at;
+    let z = c.at;
+    Three { a: x, b: y, c: z }
+}
+
+// Whether a portal has the origin on its inner side.
+fn right_way(v: Three) -> bool
+    requires { ⌜ Corners v ⌝ }
+    ensures { λ r. ⌜ r ≡ ltZ (det (v .a) (v .b) (v .c)) (pos 0) ⌝ }
+{
+    let a = v.a;
+    let b = v.b;
+    let c = v.c;
+    det(a, b, c) < 0
+}
+
+// The portal that a frame's three points make, the right way round.
+fn start_of(f: Frame) -> Portal
+    requires { ⌜ Corners (framePlaces f) ⌝ }
+    ensures { λ r. ⌜ Started f r ⌝ }
+{
+    let a = f.a;
+    let b = f.b;
+    let c = f.c;
+    if right_way(frame_places(f)) {
+        return Portal { a: a, b: b, c: c };
+    }
+    Portal { a: a, b: c, c: b }
+}
+
+// The shift of the weak walk: the sum of a frame's three points.
+fn shift_of(v: Three) -> Vec3
+    requires { ⌜ Corners v ⌝ }
+    ensures { λ r. ⌜ r ≡ sum3 (v .a) (v .b) (v .c) ⌝ }
+{
+    let a = v.a;
+    let b = v.b;
+    let c = v.c;
+    plus(plus(a, b), c)
+}
+
+fn no_direction() -> Vec3
+    ensures { λ r. ⌜ r ≡ origin ⌝ }
+{
+    Vec3 { x: 0, y: 0, z: 0 }
+}
+
+// The verdict of two pieces that meet at e, whose difference has the frame f.
+fn meeting_verdict(f: Frame, e: Ended, first: &[i32], second: &[i32]) -> Answer
+    requires { ⌜ Placed (now first) × Placed (now second) ⌝ }
+    requires { ⌜ MeetingAt (now first) (now second) f e ⌝ }
+    ensures { λ r. ⌜ (r .number ≡ 0) × Carries (now (first .entry)) (now (second .entry)) r ⌝ }
+{
+    let k = gathered_of(e);
+    let count = k.count;
+    let pairs = k.pairs;
+    let solid = f.solid;
+    if solid {
+        let v = frame_places(f);
+        let t = e.portal;
+        let g = f.widths;
+        let w = walk(shift_of(v), v, t, g, first, second);
+        let inside = w.met;
+        if inside {
+            return Answer {
+                number: 0,
+                verdict: 3,
+                direction: no_direction(),
+                count: count,
+                pairs: pairs,
+            };
+        }
+        let n = w.normal;
+        return Answer {
+            number: 0,
+            verdict: 2,
+            direction: n,
+            count: count,
+            pairs: pairs,
+        };
+    }
+    let d = f.flat;
+    Answer {
+        number: 0,
+        verdict: 2,
+        direction: d,
+        count: count,
+        pairs: pairs,
+    }
+}
+
+// The verdict of two lists of placed corners, with its witnesses.
+fn verdict(first: &[i32], second: &[i32]) -> Answer
+    requires { ⌜ Placed (now first) × Placed (now second) ⌝ }
+    ensures { λ r. ⌜ (r .number ≡ 0) × Carries (now (first .entry)) (now (second .entry)) r ⌝ }
+{
+    let f = frame_of(first, second);
+    let v = frame_places(f);
+    let g = f.widths;
+    let e = walk(no_direction(), v, start_of(f), g, first, second);
+    let met = e.met;
+    if met {
+        return meeting_verdict(f, e, first, second);
+    }
+    let n = e.normal;
+    Answer {
+        number: 0,
+        verdict: 1,
+        direction: n,
+        count: 0,
+        pairs: no_pairs(),
+    }
+}
+
+fn lengths_fit(first: &[i32], second: &[i32]) -> bool
+    ensures { λ r. ⌜ Tells r (BothFit (now (first .entry)) (now (second .entry))) (BadLength (now (first .entry)) (now (second .entry))) ⌝ }
+{
+    if length_fits(first.len()) {
+        return length_fits(second.len());
+    }
+    false
+}
+
+fn both_near(first: &[i32], second: &[i32]) -> bool
+    ensures { λ r. ⌜ Tells r (BothNear (now (first .entry)) (now (second .entry))) (OutOfReach (now (first .entry)) (now (second .entry))) ⌝ }
+{
+    if in_reach(first, limits::PLACED_REACH) {
+        return in_reach(second, limits::PLACED_REACH);
+    }
+    false
+}
+
+// The pair question on two lent lists of placed corners: for every two lists.
+pub fn pair_of_lists(first: &[i32], second: &[i32]) -> Answer
+    ensures { λ r. ⌜ Answers (now (first .entry)) (now (second .entry)) r ⌝ }
+{
+    if lengths_fit(first, second) {
+        if both_near(first, second) {
+            return verdict(first, second);
+        }
+        return refused(limits::PLACED_RANGE);
+    }
+    refused(limits::LIST_LENGTH)
 }

@@ -1,0 +1,67 @@
+-- THE ANSWER to the pair question on two lent lists of placed corners, as document 01 has it: the refusals, the verdict, what it carries.
+-- No proof stands here but that two answers which are allowed for the same lists have one number and one verdict.
+use mathlib.Core.Path.{_≡_, refl, sym, _∙_, subst}
+use mathlib.Core.List.{List, [], _∷_}
+use mathlib.Core.Logic.{_⊎_}
+use Prim.Native.Nat.{ℕ, _≤_, _<_}
+use lib.ListN.{length, take, drop}
+use lib.IntN.{ℤ, pos}
+use Rattle.limits.specs.Limits.{listLength, placedRange, placedReach, directionReach, done}
+use Rattle.limits.specs.Lowest.{Refusal, Lowest, _when_, lowest-once}
+use Rattle.space.specs.declared.Vec3.{Vec3}
+use Rattle.space.specs.declared.Pair.{Pair}
+use Rattle.space.specs.Vectors.{origin}
+use Rattle.space.specs.Ranges.{Upto}
+use Rattle.space.specs.Verdicts.{Piece, Below, Supported, Balance, VerdictIs, separate, touching, penetrating}
+use Rattle.space.specs.Lists.{LengthFits, InReach}
+use Rattle.space.specs.Exclusion.{verdict-once}
+use Rattle.walk.specs.declared.Answer.{Answer}
+
+-- 3: "a corner list's length isn't 3 × (1 to 32)"
+abbrev pub BadLength : Piece → Piece → Type 0
+BadLength A B = (LengthFits (length A) → ⊥) ⊎ (LengthFits (length B) → ⊥)
+
+-- 20: "a placed corner of a lent list .. beyond ±131,072"
+abbrev pub OutOfReach : Piece → Piece → Type 0
+OutOfReach A B = (InReach placedReach A → ⊥) ⊎ (InReach placedReach B → ⊥)
+
+abbrev pub refusals : Piece → Piece → List Refusal
+refusals A B = listLength when BadLength A B ∷ placedRange when OutOfReach A B ∷ []
+
+-- "Fields that a verdict doesn't carry are zero."
+abbrev pub noPair : Pair
+noPair = record { first = 0; second = 0; weight = pos 0 }
+
+abbrev pub noPairs : List Pair
+noPairs = noPair ∷ noPair ∷ noPair ∷ noPair ∷ []
+
+-- the pairs that an answer carries are the first `count` of its four
+abbrev pub carried : Answer → List Pair
+carried r = take (r .count) (r .pairs)
+
+-- "Every other value in the answer is zero"
+abbrev pub nothing : ℕ → Answer
+nothing n = record { number = n; verdict = 0; direction = origin; count = 0; pairs = noPairs }
+
+-- what an answer with a verdict carries: "components within 2^39 in size", and one to four pairs where the pieces meet
+pub record Carries (A B : Piece) (r : Answer) : Type 0 where
+  pub right : VerdictIs A B (r .verdict)
+  pub small : Upto directionReach (r .direction)
+  pub parting : r .verdict ≡ separate → Below (r .direction) A B
+  pub supporting : r .verdict ≡ touching → Supported (r .direction) A B
+  pub undirected : r .verdict ≡ penetrating → r .direction ≡ origin
+  pub unpaired : r .verdict ≡ separate → r .count ≡ 0
+  pub meeting : (r .verdict ≡ separate → ⊥) → Balance A B (carried r)
+  pub rest : drop (r .count) (r .pairs) ≡ drop (r .count) noPairs
+
+-- the whole promise: for every two lists
+pub record Answers (A B : Piece) (r : Answer) : Type 0 where
+  pub refusal : Lowest (refusals A B) (r .number)
+  pub zeros : (r .number ≡ done → ⊥) → r ≡ nothing (r .number)
+  pub carries : r .number ≡ done → Carries A B r
+
+-- two answers allowed for the same lists have one number and one verdict; the witnesses may vary
+pub answers-once : {A B : Piece} {q r : Answer} → Answers A B q → Answers A B r → (q .number ≡ r .number) × (q .number ≡ done → q .verdict ≡ r .verdict)
+answers-once {A} {B} a b =
+    let e = lowest-once (refusals A B) (a .refusal) (b .refusal) in
+    (e, λ z. verdict-once (a .carries z .right) (b .carries (sym e ∙ z) .right))
