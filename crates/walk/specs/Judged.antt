@@ -254,6 +254,12 @@ weights {A} {B} {f} {e} {r} pa pb k w t h = record {
     few = let l = length-take (r .count) (r .pairs) in let z = g4 .size in omega arith
 
 -- ---- the answers
+abbrev pub touchingWith : Vec3 → Gathered → Answer
+touchingWith d g = record { number = 0; verdict = touching; direction = d; count = g .count; pairs = g .pairs }
+
+abbrev pub penetratingWith : Gathered → Answer
+penetratingWith g = record { number = 0; verdict = penetrating; direction = origin; count = g .count; pairs = g .pairs }
+
 pub carries-separate : {A B : Piece} {n : Vec3} → Below n A B → Upto directionReach n → Carries A B (record { number = 0; verdict = 1; direction = n; count = 0; pairs = noPairs })
 carries-separate {n} h u = record {
   right = inl (refl, record { direction = n; parts = h });
@@ -266,7 +272,7 @@ carries-separate {n} h u = record {
   rest = refl;
 }
 
-pub carries-touching : {A B : Piece} {d : Vec3} {g : Gathered} → Supported d A B → Upto directionReach d → Weights A B g → Carries A B (record { number = 0; verdict = 2; direction = d; count = g .count; pairs = g .pairs })
+pub carries-touching : {A B : Piece} {d : Vec3} {g : Gathered} → Supported d A B → Upto directionReach d → Weights A B g → Carries A B (touchingWith d g)
 carries-touching {d} {g} h u w = record {
   right = inr (inl (refl, record { meeting = record { pairs = take (g .count) (g .pairs); balance = w .balance }; direction = d; supported = h }));
   small = u;
@@ -278,7 +284,7 @@ carries-touching {d} {g} h u w = record {
   rest = w .rest;
 }
 
-pub carries-penetrating : {A B : Piece} {g : Gathered} → ((d : Vec3) → Supported d A B → ⊥) → Weights A B g → Carries A B (record { number = 0; verdict = 3; direction = origin; count = g .count; pairs = g .pairs })
+pub carries-penetrating : {A B : Piece} {g : Gathered} → ((d : Vec3) → Supported d A B → ⊥) → Weights A B g → Carries A B (penetratingWith g)
 carries-penetrating {g} h w = record {
   right = inr (inr (refl, record { meeting = record { pairs = take (g .count) (g .pairs); balance = w .balance }; free = h }));
   small = origin-upto directionReach;
@@ -381,8 +387,8 @@ pub answer-eq : {n v k : ℕ} {d d′ : Vec3} {ps ps′ : List Pair} → d ≡ d
 answer-eq {n} {v} {k} e f = λ i. record { number = n; verdict = v; direction = e i; count = k; pairs = f i }
 
 -- the same verdict with an equal direction and equal pairs
-pub carries-is : {A B : Piece} {q r : Answer} → q ≡ r → Carries A B r → Carries A B q
-carries-is {A} {B} e h = subst (Carries A B) (sym e) h
+pub carries-is : {A B : Piece} {q r : Answer} → q ≡ r → (r .number ≡ 0) × Carries A B r → (q .number ≡ 0) × Carries A B q
+carries-is {A} {B} e h = subst (λ r. (r .number ≡ 0) × Carries A B r) (sym e) h
 
 -- the first two of three points' sum, which is small
 pub pair-sum : {a b y : Vec3} → Upto pointReach a → Upto pointReach b → y ≡ plus a b → Upto crossReach y

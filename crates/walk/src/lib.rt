@@ -31,7 +31,7 @@ ghost use Rattle.walk.specs.Frames.{differenceAt, Rows, Level, leftAt, r
 ghost use Rattle.walk.specs.Answers.{noPair, noPairs, nothing, BadLength, OutOfReach, Carries, Answers};
 ghost use Rattle.walk.specs.Gather.{nothingYet, Pushed, Room};
 ghost use Rattle.portal.specs.Exits.{sum3};
-ghost use Rattle.walk.specs.Judged.{framePlaces, Started, Weighed, Near, MeetingAt, Tells, BothFit, BothNear};
+ghost use Rattle.walk.specs.Judged.{framePlaces, touchingWith, penetratingWith, Started, Weighed, Near, MeetingAt, Tells, BothFit, BothNear};
 ghost use Rattle.walk.specs.Points.{Farthest, Signed, Box, Boxed, Supports};
 
 // A point of the difference of two pieces, with the numbers of the two corners that it comes from.
@@ -116,8 +116,9 @@ fn support(n: Vec3, g: Vec3, first: &[i32], second: &[i32]) -> Point
     requires { ⌜ Placed (now first) × Placed (now second) ⌝ }
     ensures { λ r. ⌜ Supports (now (first .entry)) (now (second .entry)) g n r ⌝ }
 {
+    let against = opposite(n);
     let i = farthest(n, first);
-    let j = farthest(opposite(n), second);
+    let j = farthest(against, second);
     let a = corner(first, i);
     let b = corner(second, j);
     let at = plus(minus(a, b), boxed(n, g));
@@ -685,6 +686,34 @@ fn no_direction() -> Vec3
     Vec3 { x: 0, y: 0, z: 0 }
 }
 
+fn touching_with(direction: Vec3, k: Gathered) -> Answer
+    ensures { λ r. ⌜ r ≡ touchingWith direction k ⌝ }
+{
+    let count = k.count;
+    let pairs = k.pairs;
+    Answer {
+        number: limits::DONE,
+        verdict: 2,
+        direction: direction,
+        count: count,
+        pairs: pairs,
+    }
+}
+
+fn penetrating_with(k: Gathered) -> Answer
+    ensures { λ r. ⌜ r ≡ penetratingWith k ⌝ }
+{
+    let count = k.count;
+    let pairs = k.pairs;
+    Answer {
+        number: limits::DONE,
+        verdict: 3,
+        direction: no_direction(),
+        count: count,
+        pairs: pairs,
+    }
+}
+
 // The verdict of two pieces that meet at e, whose difference has the frame f.
 fn meeting_verdict(f: Frame, e: Ended, first: &[i32], second: &[i32]) -> Answer
     requires { ⌜ Placed (now first) × Placed (now second) ⌝ }
@@ -692,8 +721,6 @@ fn meeting_verdict(f: Frame, e: Ended, first: &[i32], second: &[i32]) -> Answer
     ensures { λ r. ⌜ (r .number ≡ 0) × Carries (now (first .entry)) (now (second .entry)) r ⌝ }
 {
     let k = gathered_of(e);
-    let count = k.count;
-    let pairs = k.pairs;
     let solid = f.solid;
     if solid {
         let v = frame_places(f);
@@ -702,31 +729,13 @@ fn meeting_verdict(f: Frame, e: Ended, first: &[i32], second: &[i32]) -> Answer
         let w = walk(shift_of(v), v, t, g, first, second);
         let inside = w.met;
         if inside {
-            return Answer {
-                number: 0,
-                verdict: 3,
-                direction: no_direction(),
-                count: count,
-                pairs: pairs,
-            };
+            return penetrating_with(k);
         }
         let n = w.normal;
-        return Answer {
-            number: 0,
-            verdict: 2,
-            direction: n,
-            count: count,
-            pairs: pairs,
-        };
+        return touching_with(n, k);
     }
     let d = f.flat;
-    Answer {
-        number: 0,
-        verdict: 2,
-        direction: d,
-        count: count,
-        pairs: pairs,
-    }
+    touching_with(d, k)
 }
 
 // The verdict of two lists of placed corners, with its witnesses.
@@ -744,7 +753,7 @@ fn verdict(first: &[i32], second: &[i32]) -> Answer
     }
     let n = e.normal;
     Answer {
-        number: 0,
+        number: limits::DONE,
         verdict: 1,
         direction: n,
         count: 0,

@@ -1,10 +1,11 @@
--- `walk::verdict`: the strict walk from the frame's portal; where it meets, what follows decides.
+use borrow.Author.Needs.{needs}
 use mathlib.Core.Path.{refl}
 use Rattle.space.specs.Ranges.{upto-le}
 use Rattle.walk.specs.Judged.{ground, frame-corners, begun-strict, strict, separate-by, carries-separate, carries-is, answer-eq}
-use borrow.Author.Needs.{needs}
 use Rattle.walk.proofs.verdict.Statement.{statement}
 use Rattle.walk.proofs.verdict.Tie as tie
+
+-- `walk::verdict`: the strict walk from the frame's portal; where it meets, what follows decides.
 
 frame-of-requires : tie.Need-frame-of-requires
 frame-of-requires c κs = search needs
@@ -41,7 +42,7 @@ returns-2 c =
     let p = c .before .before .before .before .before .before .before .before .before .pre in
     let f = c .before .before .before .before .before .before .before .before .frame-of .ensures in
     let w = strict (p .0) (p .1) f (c .before .before .before .before .before .no-direction .ensures) (c .before .before .before .before .before .before .before .frame-places .ensures) (c .before .before .before .walk .ensures) in
-    (refl, carries-is (answer-eq refl (c .no-pairs .ensures)) (carries-separate (separate-by (p .0) (p .1) f w (c .before .before .if1 .left)) (upto-le tt (w .reach))))
+    carries-is (answer-eq refl (c .no-pairs .ensures)) (refl, carries-separate (separate-by (p .0) (p .1) f w (c .before .before .if1 .left)) (upto-le tt (w .reach)))
 
 pub verdict-spec : {M : Type 1} → statement M
 verdict-spec =
