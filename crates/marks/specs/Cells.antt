@@ -11,12 +11,13 @@ use lib.Dec.{eqb, ltb}
 use lib.IntN.{ℤ}
 use lib.ListN.{length, getD, replicate, length-replicate}
 use Rattle.limits.specs.Limits
-use Rattle.marks.specs.Marks.{Axis, oneIf, placeOf, sideOf, valueOf, isMark, earlier, InPlace, Ranged, OthersStay}
+use Rattle.ints.specs.Bounds.{Within}
+use Rattle.marks.specs.Marks.{Axis, oneIf, placeOf, sideOf, valueOf, isMark, earlier, InPlace, Ranged, Agree, OthersStay}
 use Rattle.marks.specs.Keys.{noKey, keyFor, keyAt, Keyed, keyOf}
-use Rattle.marks.specs.Counts.{countOf, hit, less, oneIf≤, count-pos, count-fill, find, find-two, twice}
+use Rattle.marks.specs.Counts.{countOf, hit, less, and-false, oneIf≤, count-pos, count-fill, find, find-two, twice}
 use Rattle.marks.specs.Rising.{rises, up-at, up-from, up-none, fill-up}
 use Rattle.marks.specs.Sorted.{Sorted, keyed, top-key, member, only, reordered, stays-sorted, retaken}
-use Rattle.marks.specs.Order.{mark-low, at-mark, at-none, keyed-is, fine, key-decides, keys-are}
+use Rattle.marks.specs.Order.{mark-low, no-mark, at-none, keyed-is, fine, key-decides, keys-are}
 
 module _ (a : Axis) (r : Ranged a) (xs : List ℕ) where
   abbrev e : ℕ → ℕ
@@ -97,6 +98,17 @@ module _ (a : Axis) (r : Ranged a) (xs : List ℕ) where
             | inr n ↦ omega (arith, climbs i j l (omega (arith, m, p .long)) (n .0))
           ]
 
+-- an axis with the same places and values is in range too
+pub ranged-same : (a b : Axis) → Agree a b → Ranged a → Ranged b
+ranged-same a b g r m h =
+    let l = mark-low b m h in
+    let t : a .taken (placeOf m) ≡ true = g .taken (placeOf m) (omega (arith, l .0)) ∙ l .1 in
+    let is : isMark a m ≡ true = ap (λ (c : Bool). c && a .taken (placeOf m)) (lt-ltb m Limits.axisMarks (l .0)) ∙ t in
+    subst (Within Limits.placedReach)
+    (ap (λ (v : ℤ). cond (eqb (sideOf m) 0) v (a .high (placeOf m))) (g .low (placeOf m) (omega (arith, l .0)) t)
+    ∙ ap (λ (v : ℤ). cond (eqb (sideOf m) 0) (b .low (placeOf m)) v) (g .high (placeOf m) (omega (arith, l .0)) t))
+    (r m is)
+
 -- two parts in place for the same places and values are one
 pub one-part : (a : Axis) → Ranged a → (xs ys : List ℕ) → InPlace a xs → InPlace a ys → xs ≡ ys
 one-part a r xs ys p q = only (keyAt a) xs ys (fine a r) (sorted a r xs p) (sorted a r ys q)
@@ -110,36 +122,44 @@ none-in-place a h = in-place a (λ m k. absurd (false≢true (sym (none m) ∙ k
 }
   where
     none : (m : ℕ) → isMark a m ≡ false
-    none m = ap (λ (b : Bool). ltb m Limits.axisMarks && b) (h (placeOf m)) ∙ nothing (ltb m Limits.axisMarks)
-      where
-        nothing : (b : Bool) → (b && false) ≡ false
-        nothing true = refl
-        nothing false = refl
+    none m = ap (λ (b : Bool). ltb m Limits.axisMarks && b) (h (placeOf m)) ∙ and-false (ltb m Limits.axisMarks)
 
     ranged : Ranged a
     ranged m k = absurd (false≢true (sym (none m) ∙ k))
 
--- the keys of all marks but those of the handled place stay
-stay : (old new : Axis) (place : ℕ) → OthersStay place old new → (q : ℕ) → (placeOf q ≡ place → ⊥) → keyAt old q ≡ keyAt new q
+-- a mark of a place that stays keeps its key
+key-stays : (old new : Axis) (q : ℕ) → old .taken (placeOf q) ≡ new .taken (placeOf q) → (old .taken (placeOf q) ≡ true → (old .low (placeOf q) ≡ new .low (placeOf q)) × (old .high (placeOf q) ≡ new .high (placeOf q))) → keyAt old q ≡ keyAt new q
 unfolding keyAt
-stay old new place o q n = each (old .taken (placeOf q)) refl
+key-stays old new q t v = each (old .taken (placeOf q)) refl
   where
     marks-same : isMark old q ≡ isMark new q
-    marks-same = ap (λ (b : Bool). ltb q Limits.axisMarks && b) (o .taken (placeOf q) n)
+    marks-same = ap (λ (b : Bool). ltb q Limits.axisMarks && b) t
 
-    key-same : old .taken (placeOf q) ≡ true → keyFor (valueOf old q) q ≡ keyFor (valueOf new q) q
-    key-same h = ap (λ (v : ℤ). keyFor v q) (ap (λ (l : ℤ). cond (eqb (sideOf q) 0) l (old .high (placeOf q))) (o .low (placeOf q) n h) ∙ ap (λ (l : ℤ). cond (eqb (sideOf q) 0) (new .low (placeOf q)) l) (o .high (placeOf q) n h))
+    key-same : (old .low (placeOf q) ≡ new .low (placeOf q)) × (old .high (placeOf q) ≡ new .high (placeOf q)) → keyFor (valueOf old q) q ≡ keyFor (valueOf new q) q
+    key-same h = ap (λ (v : ℤ). keyFor v q) (ap (λ (l : ℤ). cond (eqb (sideOf q) 0) l (old .high (placeOf q))) (h .0) ∙ ap (λ (l : ℤ). cond (eqb (sideOf q) 0) (new .low (placeOf q)) l) (h .1))
 
     each : (b : Bool) → old .taken (placeOf q) ≡ b → keyAt old q ≡ keyAt new q
-    each true h = ap (λ (b : Bool). cond b (keyFor (valueOf old q) q) noKey) marks-same ∙ ap (λ (k : ℕ). cond (isMark new q) k noKey) (key-same h)
-    each false h = at-none old q (ap (λ (b : Bool). ltb q Limits.axisMarks && b) h ∙ nothing (ltb q Limits.axisMarks)) ∙ sym (at-none new q (sym marks-same ∙ ap (λ (b : Bool). ltb q Limits.axisMarks && b) h ∙ nothing (ltb q Limits.axisMarks)))
-      where
-        nothing : (b : Bool) → (b && false) ≡ false
-        nothing true = refl
-        nothing false = refl
+    each true h = ap (λ (b : Bool). cond b (keyFor (valueOf old q) q) noKey) marks-same ∙ ap (λ (k : ℕ). cond (isMark new q) k noKey) (key-same (v h))
+    each false h =
+        let none : isMark old q ≡ false = ap (λ (b : Bool). ltb q Limits.axisMarks && b) h ∙ and-false (ltb q Limits.axisMarks) in
+        at-none old q none ∙ sym (at-none new q (sym marks-same ∙ none))
+
+stay : (old new : Axis) (place : ℕ) → OthersStay place old new → (q : ℕ) → (placeOf q ≡ place → ⊥) → keyAt old q ≡ keyAt new q
+stay old new place o q n =
+    elim (less q Limits.axisMarks) [
+      | inl l ↦ key-stays old new q (o .taken (placeOf q) (omega arith) n) (λ h. (o .low (placeOf q) (omega arith) n h, o .high (placeOf q) (omega arith) n h))
+      | inr l ↦ at-none old q (no-mark old q l) ∙ sym (at-none new q (no-mark new q l))
+    ]
 
 -- a place, a move or a removal keeps the part in place
 pub stays-in-place : (old new : Axis) (keys : List ℕ) (place : ℕ) (xs : List ℕ) → place < Limits.places → Ranged old → Keyed new keys → OthersStay place old new → InPlace old xs → InPlace new (reordered (keyOf keys) place xs)
 stays-in-place old new keys place xs l ro k o p =
     subst (λ (e : ℕ → ℕ). InPlace new (reordered e place xs)) (sym (keys-are new keys k))
     (in-place new (k .ranged) (reordered (keyAt new) place xs) (stays-sorted (keyAt old) (keyAt new) xs place l (fine old ro) (fine new (k .ranged)) (stay old new place o) (sorted old ro xs p)))
+
+-- the keys of one axis are those of every axis that has the same places and values
+pub keyed-same : (a b : Axis) (keys : List ℕ) → Agree a b → Keyed a keys → Keyed b keys
+keyed-same a b keys g k = record {
+  ranged = ranged-same a b g (k .ranged);
+  is = λ m l. k .is m l ∙ key-stays a b m (g .taken (placeOf m) (omega arith)) (λ h. (g .low (placeOf m) (omega arith) h, g .high (placeOf m) (omega arith) h));
+}

@@ -96,7 +96,7 @@ module _ (old new : Axis) (ko kn : List ℕ) (place : ℕ) (l : place < Limits.p
       other true true hc hd = simp (hc, hd)
       other true false hc hd =
           let away : placeOf q ≡ place → ⊥ = λ k. apart (sym (eq-eqb (placeOf q) place k) ∙ hd) in
-          let hn : isMark new q ≡ true = ap (λ (t : Bool). ltb q Limits.axisMarks && t) (sym (stay .taken (placeOf q) away)) ∙ hc in
+          let hn : isMark new q ≡ true = ap (λ (t : Bool). ltb q Limits.axisMarks && t) (sym (stay .taken (placeOf q) (omega arith) away)) ∙ hc in
           ap (λ (z : ℕ). cond (isMark old q && notOf place q) (z + crossedKeys ko kn (highMark place) q) 0) (pair (lowMark place) q (omega arith) (omega arith) hc hn)
           ∙ ap (λ (z : ℕ). cond (isMark old q && notOf place q) (crossed old new (lowMark place) q + z) 0) (pair (highMark place) q (omega arith) (omega arith) hc hn)
         where

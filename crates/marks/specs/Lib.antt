@@ -9,3 +9,4 @@ pub mod Test
 pub mod Changed
 pub mod Promises
 pub mod Buffer
+pub mod Bench

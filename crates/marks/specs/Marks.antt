@@ -85,16 +85,22 @@ Ranged a = (mark : ℕ) → isMark a mark ≡ true → Within Limits.placedReach
 abbrev pub RangedMarks : Axes → Type 0
 RangedMarks a = (axis : ℕ) → axis < 3 → Ranged (axisOf a axis)
 
+-- two axes with the same taken places and the same values
+pub record Agree (a b : Axis) : Type 0 where
+  pub taken : (p : ℕ) → p < Limits.places → a .taken p ≡ b .taken p
+  pub low : (p : ℕ) → p < Limits.places → a .taken p ≡ true → a .low p ≡ b .low p
+  pub high : (p : ℕ) → p < Limits.places → a .taken p ≡ true → a .high p ≡ b .high p
+
 -- one place is handled and every other stays: what a place, a move and a removal have in common
 pub record OthersStay (place : ℕ) (old new : Axis) : Type 0 where
-  pub taken : (p : ℕ) → (p ≡ place → ⊥) → old .taken p ≡ new .taken p
-  pub low : (p : ℕ) → (p ≡ place → ⊥) → old .taken p ≡ true → old .low p ≡ new .low p
-  pub high : (p : ℕ) → (p ≡ place → ⊥) → old .taken p ≡ true → old .high p ≡ new .high p
+  pub taken : (p : ℕ) → p < Limits.places → (p ≡ place → ⊥) → old .taken p ≡ new .taken p
+  pub low : (p : ℕ) → p < Limits.places → (p ≡ place → ⊥) → old .taken p ≡ true → old .low p ≡ new .low p
+  pub high : (p : ℕ) → p < Limits.places → (p ≡ place → ⊥) → old .taken p ≡ true → old .high p ≡ new .high p
 
 pub record OthersStayMarks (place : ℕ) (old new : Axes) : Type 0 where
-  pub taken : (p : ℕ) → (p ≡ place → ⊥) → old .taken p ≡ new .taken p
-  pub low : (axis p : ℕ) → (p ≡ place → ⊥) → old .taken p ≡ true → old .low axis p ≡ new .low axis p
-  pub high : (axis p : ℕ) → (p ≡ place → ⊥) → old .taken p ≡ true → old .high axis p ≡ new .high axis p
+  pub taken : (p : ℕ) → p < Limits.places → (p ≡ place → ⊥) → old .taken p ≡ new .taken p
+  pub low : (axis p : ℕ) → p < Limits.places → (p ≡ place → ⊥) → old .taken p ≡ true → old .low axis p ≡ new .low axis p
+  pub high : (axis p : ℕ) → p < Limits.places → (p ≡ place → ⊥) → old .taken p ≡ true → old .high axis p ≡ new .high axis p
 
 -- 1 where the test holds, else 0; the sum over the numbers below n
 abbrev pub oneIf : Bool → ℕ

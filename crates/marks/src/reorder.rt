@@ -25,13 +25,13 @@ fn push_in(part: &mut [u16], keys: &[u32; limits::AXIS_MARKS], mark: u16)
     ensures { λ _. ⌜ now (part .exit) ≡ pass (keyOf (now (keys .entry))) mark (now (part .entry)) ⌝ }
 {
     let mut carried = mark;
-    let mut i = 0;
-    while i < part.len() {
-        let q = part[i];
+    let mut cell = 0;
+    while cell < part.len() {
+        let q = part[cell];
         let first = key_of(keys, carried) < key_of(keys, q);
-        part[i] = pick(first, carried, q);
+        part[cell] = pick(first, carried, q);
         carried = pick(first, q, carried);
-        i += 1;
+        cell += 1;
     }
 }
 

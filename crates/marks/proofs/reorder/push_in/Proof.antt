@@ -13,10 +13,10 @@ use Rattle.marks.proofs.reorder.push_in.Statement.{statement}
 use Rattle.marks.proofs.reorder.push_in.Tie as tie
 
 abbrev Inv-loop : tie.InvT-loop
-Inv-loop part₀ keys mark carried₀ i₀ part carried i = (i ≤ length part₀) × (length part ≡ length part₀) × (take i part ++ pass (keyOf keys) carried (drop i part) ≡ pass (keyOf keys) mark part₀)
+Inv-loop part₀ keys mark carried₀ cell₀ part carried cell = (cell ≤ length part₀) × (length part ≡ length part₀) × (take cell part ++ pass (keyOf keys) carried (drop cell part) ≡ pass (keyOf keys) mark part₀)
 
 abbrev μ-loop : tie.MeasureT-loop
-μ-loop part₀ keys mark carried₀ i₀ part carried i = length part₀ - i
+μ-loop part₀ keys mark carried₀ cell₀ part carried cell = length part₀ - cell
 
 loop-holds : tie.Need-loop-holds Inv-loop μ-loop
 loop-holds c = (search needs, refl, refl)
@@ -45,8 +45,8 @@ slice-write-part c = search needs
 pick-requires-2 : tie.Need-pick-requires-2 Inv-loop μ-loop
 pick-requires-2 c κs = search needs
 
-add-i : tie.Need-add-i Inv-loop μ-loop
-add-i c = search needs
+add-cell : tie.Need-add-cell Inv-loop μ-loop
+add-cell c = search needs
 
 loop-less : tie.Need-loop-less Inv-loop μ-loop
 loop-less c = search needs
@@ -58,7 +58,7 @@ loop-again c =
     let first = c .before .before .before .key-of in
     let second = c .before .before .key-of2 in
     let v = c .before .pick in
-    (search needs, length-set (l .part) (l .i) (v .result) ∙ l .inv .1, push-more (keyOf (a .keys .now)) (l .carried) (l .i) (first .result) (second .result) (v .result) (c .pick2 .result) (l .part) _ (omega arith) (first .ensures) (second .ensures) (v .ensures) (c .pick2 .ensures) (l .inv .2))
+    (search needs, length-set (l .part) (l .cell) (v .result) ∙ l .inv .1, push-more (keyOf (a .keys .now)) (l .carried) (l .cell) (first .result) (second .result) (v .result) (c .pick2 .result) (l .part) _ (omega arith) (first .ensures) (second .ensures) (v .ensures) (c .pick2 .ensures) (l .inv .2))
 
 same-length : tie.Need-same-length Inv-loop μ-loop
 same-length c = search needs
@@ -67,7 +67,7 @@ returns : tie.Need-returns Inv-loop μ-loop
 returns c =
     let l = c .before .loop in
     let a = c .before .before .before .args in
-    push-done (keyOf (a .keys .now)) (l .carried) (l .i) (l .part) _ (omega arith) (omega arith) (l .inv .2)
+    push-done (keyOf (a .keys .now)) (l .carried) (l .cell) (l .part) _ (omega arith) (omega arith) (l .inv .2)
 
 pub push-in-spec : {M : Type 1} → statement M
 push-in-spec =
@@ -84,7 +84,7 @@ push-in-spec =
     mul-part
     slice-write-part
     pick-requires-2
-    add-i
+    add-cell
     loop-less
     loop-again
     same-length
