@@ -144,7 +144,7 @@ key-stays old new q t v = each (old .taken (placeOf q)) refl
         let none : isMark old q ≡ false = ap (λ (b : Bool). ltb q Limits.axisMarks && b) h ∙ and-false (ltb q Limits.axisMarks) in
         at-none old q none ∙ sym (at-none new q (sym marks-same ∙ none))
 
-stay : (old new : Axis) (place : ℕ) → OthersStay place old new → (q : ℕ) → (placeOf q ≡ place → ⊥) → keyAt old q ≡ keyAt new q
+pub stay : (old new : Axis) (place : ℕ) → OthersStay place old new → (q : ℕ) → (placeOf q ≡ place → ⊥) → keyAt old q ≡ keyAt new q
 stay old new place o q n =
     elim (less q Limits.axisMarks) [
       | inl l ↦ key-stays old new q (o .taken (placeOf q) (omega arith) n) (λ h. (o .low (placeOf q) (omega arith) n h, o .high (placeOf q) (omega arith) n h))

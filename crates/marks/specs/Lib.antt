@@ -9,4 +9,5 @@ pub mod Test
 pub mod Changed
 pub mod Promises
 pub mod Buffer
+pub mod Rank
 pub mod Bench

@@ -123,7 +123,7 @@ unfolding keyAt
 at-none a m h = ap (λ (b : Bool). cond b (keyFor (valueOf a m) m) noKey) h
 
 module _ (a : Axis) (r : Ranged a) where
-  small-at : (m : ℕ) → isMark a m ≡ true → keyAt a m < noKey
+  pub small-at : (m : ℕ) → isMark a m ≡ true → keyAt a m < noKey
   small-at m h = omega (arith, at-mark a m h, key-small m (r m h) (mark-low a m h .0))
 
   pub keyed-is : (m : ℕ) → keyed (keyAt a) m ≡ isMark a m
