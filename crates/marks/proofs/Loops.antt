@@ -1,6 +1,6 @@
 -- What one round of each loop does to its list, and what the list is when the loop ends.
 -- On plain lists and numbers; the proofs of the functions hand the facts over.
-use mathlib.Core.Path.{_≡_, refl, ap, sym, _∙_}
+use mathlib.Core.Path.{_≡_, ap, sym, _∙_}
 use mathlib.Core.Logic.{inl, inr}
 use mathlib.Core.List.{List, [], _∷_, _++_, append-assoc, append-nil}
 use mathlib.Core.Bool.{Bool, true, false, cond, _&&_}

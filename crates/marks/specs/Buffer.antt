@@ -1,14 +1,14 @@
 -- The whole buffer: two buffers in place are one, and a buffer of noMark alone is in place where no place is taken.
 -- And what holds on the axis of three lists holds of every axis that agrees with it.
-use mathlib.Core.Path.{_≡_, refl, ap, sym, _∙_, subst}
+use mathlib.Core.Path.{_≡_, ap, sym, _∙_}
 use mathlib.Core.List.{List, _++_}
-use mathlib.Core.Bool.{Bool, true, false, cond, _&&_}
-use Prim.Native.Nat.{ℕ, _+_, _*_, _<_}
+use mathlib.Core.Bool.{false}
+use Prim.Native.Nat.{ℕ, _+_, _*_}
 use native.Mathlib.Omega.{arith}
-use lib.ListN.{length, take, drop, replicate, length-drop, length-replicate, take-append-drop}
+use lib.ListN.{length, drop, replicate, length-drop, length-replicate, take-append-drop}
 use lib.Seq.{drop-drop, take-all}
 use Rattle.limits.specs.Limits
-use Rattle.marks.specs.Marks.{Axes, axisOf, InPlace, InPlaceMarks, RangedMarks, OthersStay, OthersStayMarks, partX, partY, partZ}
+use Rattle.marks.specs.Marks.{Axes, axisOf, InPlaceMarks, RangedMarks, OthersStay, OthersStayMarks, partX, partY, partZ}
 use Rattle.marks.specs.Cells.{one-part, none-in-place}
 
 -- the three parts are the whole

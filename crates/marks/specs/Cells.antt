@@ -2,9 +2,9 @@
 -- And one handled place keeps the part in place.
 use mathlib.Core.Path.{_≡_, refl, ap, sym, _∙_, subst}
 use mathlib.Core.Logic.{_⊎_, inl, inr}
-use mathlib.Core.List.{List, _++_}
+use mathlib.Core.List.{List}
 use mathlib.Core.Bool.{Bool, true, false, cond, _&&_, false≢true}
-use Prim.Native.Nat.{ℕ, _+_, _*_, _/_, _%_, _≤_, _<_}
+use Prim.Native.Nat.{ℕ, _≤_, _<_}
 use native.Mathlib.Omega.{arith}
 use borrow.Author.Tests.{lt-ltb, ltb-true}
 use lib.Dec.{eqb, ltb}
@@ -15,8 +15,8 @@ use Rattle.ints.specs.Bounds.{Within}
 use Rattle.marks.specs.Marks.{Axis, oneIf, placeOf, sideOf, valueOf, isMark, earlier, InPlace, Ranged, Agree, OthersStay}
 use Rattle.marks.specs.Keys.{noKey, keyFor, keyAt, Keyed, keyOf}
 use Rattle.marks.specs.Counts.{countOf, hit, less, and-false, oneIf≤, count-pos, count-fill, find, find-two, twice}
-use Rattle.marks.specs.Rising.{rises, up-at, up-from, up-none, fill-up}
-use Rattle.marks.specs.Sorted.{Sorted, keyed, top-key, member, only, reordered, stays-sorted, retaken}
+use Rattle.marks.specs.Rising.{up-at, up-from, up-none, fill-up}
+use Rattle.marks.specs.Sorted.{Sorted, keyed, top-key, member, only, reordered, stays-sorted}
 use Rattle.marks.specs.Order.{mark-low, no-mark, at-none, keyed-is, fine, key-decides, keys-are}
 
 module _ (a : Axis) (r : Ranged a) (xs : List ℕ) where

@@ -1,19 +1,18 @@
 -- The move's count, worked out of keys; and that it is at most 252 an axis, 756 in all.
 -- "It is at most 756." (document 01, "What the desk can be told")
 use mathlib.Core.Path.{_≡_, refl, ap, sym, _∙_}
-use mathlib.Core.Logic.{inl, inr}
 use mathlib.Core.List.{List}
 use mathlib.Core.Bool.{Bool, true, false, cond, _&&_, not, xor}
-use Prim.Native.Nat.{ℕ, _+_, _-_, _*_, _/_, _≤_, _<_}
+use Prim.Native.Nat.{ℕ, _+_, _-_, _*_, _≤_, _<_}
 use native.Mathlib.Omega.{arith}
-use borrow.Author.Tests.{eq-eqb, ne-eqb, lt-ltb, ltb-true}
+use borrow.Author.Tests.{eq-eqb, lt-ltb}
 use lib.Dec.{eqb, ltb}
 use lib.ListN.{getD}
 use Rattle.limits.specs.Limits
 use Rattle.marks.specs.Marks.{Axis, Axes, axisOf, oneIf, sumTo, placeOf, lowMark, highMark, isMark, earlier, crossed, isOther, changed, changedMarks, OthersStay}
 use Rattle.marks.specs.Keys.{noKey, keyAt, Keyed}
 use Rattle.marks.specs.Counts.{and-false, oneIf≤, sum-same, sum-four}
-use Rattle.marks.specs.Sorted.{keyed, notOf}
+use Rattle.marks.specs.Sorted.{notOf}
 use Rattle.marks.specs.Order.{mark-low, keyed-is, key-decides}
 
 -- the same count with keys in the place of the order

@@ -5,7 +5,7 @@ use mathlib.Core.List.{List, _++_}
 use mathlib.Core.Bool.{Bool, true}
 use Prim.Native.Nat.{ℕ, _+_, _-_, _*_, _≤_}
 use Rattle.limits.specs.Limits
-use Rattle.marks.specs.Marks.{Axis, Axes, axisOf, InPlace, InPlaceMarks, partX, partY, partZ, Ranged, RangedMarks, OthersStay, OthersStayMarks, changed, changedMarks}
+use Rattle.marks.specs.Marks.{Axis, Axes, InPlace, InPlaceMarks, partX, partY, partZ, Ranged, RangedMarks, OthersStay, OthersStayMarks, changed, changedMarks}
 use Rattle.marks.specs.Keys.{Keyed, KeyedMarks, keyOf}
 use Rattle.marks.specs.Sorted.{reordered}
 use Rattle.marks.specs.Changed.{changedKeys}

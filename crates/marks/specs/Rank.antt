@@ -9,7 +9,7 @@ use borrow.Author.Tests.{eq-eqb, lt-ltb, le-ltb}
 use lib.Dec.{eqb, ltb}
 use Rattle.limits.specs.Limits
 use Rattle.marks.specs.Marks.{Axis, oneIf, sumTo, placeOf, lowMark, highMark, isMark, earlier, crossed, isOther, changed, Ranged, OthersStay}
-use Rattle.marks.specs.Keys.{noKey, keyAt}
+use Rattle.marks.specs.Keys.{keyAt}
 use Rattle.marks.specs.Counts.{less, and-true, and-false, sum-add, sum-same}
 use Rattle.marks.specs.Order.{mark-low, small-at, fine, key-decides}
 use Rattle.marks.specs.Cells.{stay}

@@ -1,21 +1,21 @@
 -- The order test of one part: as many marks as there are keys, climbing, and then noMark alone.
 -- It passes exactly where the part is in place.
 use mathlib.Core.Path.{_≡_, refl, ap, sym, _∙_, subst}
-use mathlib.Core.Logic.{_⊎_, inl, inr}
+use mathlib.Core.Logic.{inl, inr}
 use mathlib.Core.List.{List, [], _∷_, _++_}
-use mathlib.Core.Bool.{Bool, true, false, _&&_}
+use mathlib.Core.Bool.{Bool, true, _&&_}
 use Prim.Native.Nat.{ℕ, zero, suc, _+_, _≤_, _<_}
 use native.Mathlib.Omega.{arith}
 use borrow.Author.Tests.{eq-eqb, eqb-true, le-leb, leb-true, lt-ltb, ltb-true}
 use lib.Dec.{eqb, leb, ltb}
-use lib.ListN.{length, getD, take, drop, take-append-drop}
+use lib.ListN.{length, take, drop, take-append-drop}
 use lib.Seq.{length-take-le}
 use Rattle.limits.specs.Limits
 use Rattle.marks.specs.Marks.{Axis, oneIf, sumTo, InPlace}
 use Rattle.marks.specs.Keys.{noKey, keyAt, Keyed, keyOf}
 use Rattle.marks.specs.Counts.{countOf, hit, hit-self, less, and-true, oneIf≤, oneIf-true, count-append, sum-one, sum-same, sum-count, sum-squeeze}
-use Rattle.marks.specs.Rising.{rises, up-head, up-make, up-none, up-has}
-use Rattle.marks.specs.Sorted.{Fine, Sorted, keyed, keyed-low, top-key, member, counted}
+use Rattle.marks.specs.Rising.{rises, up-head, up-make, up-none}
+use Rattle.marks.specs.Sorted.{Fine, Sorted, keyed, keyed-low, top-key, counted}
 use Rattle.marks.specs.Order.{fine, keys-are}
 use Rattle.marks.specs.Cells.{in-place, sorted}
 

@@ -9,7 +9,7 @@ ghost use lib.ListN.{getD};
 ghost use Rattle.limits.specs.Limits;
 ghost use Rattle.ints.specs.Bounds.{Within};
 ghost use Rattle.marks.specs.Marks.{placeOf, sideOf, oneIf, Ranged};
-ghost use Rattle.marks.specs.Keys.{noKey, keyFor, keyAt, keyOf, Keyed, axisFrom};
+ghost use Rattle.marks.specs.Keys.{keyFor, keyAt, keyOf, Keyed, axisFrom};
 
 pub const NO_KEY: u32 = 4294967295;
 

@@ -2,7 +2,6 @@
 // The keys are distinct, so that many climbing marks are all of them.
 ghost use mathlib.Core.Path.{_≡_};
 ghost use Prim.Native.Nat.{_≤_};
-ghost use lib.ListN.{length};
 ghost use Rattle.limits.specs.Limits;
 ghost use Rattle.marks.specs.Keys.{keyOf};
 ghost use Rattle.marks.specs.Test.{climbs, blank, marksIn};

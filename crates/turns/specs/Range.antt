@@ -1,11 +1,10 @@
 -- How far a turned and a placed corner reach.
 -- "A placed corner is the turned corner plus the offset, so it lies within ±131,072." (document 01, "What the desk holds")
-use mathlib.Core.Path.{_≡_, refl, subst, sym}
 use mathlib.Core.Bool.{Bool, true, false, cond}
-use Prim.Native.Nat.{ℕ, _+_, _≤_}
+use Prim.Native.Nat.{ℕ}
 use native.Mathlib.Omega.{arith}
 use lib.Dec.{eqb}
-use lib.IntN.{ℤ, pos, negℤ, natAbs, _+ℤ_}
+use lib.IntN.{ℤ, pos, negℤ, natAbs}
 use lib.Signed.{ltZ}
 use Rattle.limits.specs.Limits
 use Rattle.ints.specs.Bounds.{Within, natAbs-neg, natAbs-add}

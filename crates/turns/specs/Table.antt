@@ -1,6 +1,6 @@
 -- A rule of a table, proved at all of its entries by one test that is computed; and a test at each number below a bound.
 -- Nothing here speaks of turns.
-use mathlib.Core.Path.{_≡_, _∙_, subst, sym}
+use mathlib.Core.Path.{_∙_, subst, sym}
 use mathlib.Core.Bool.{Bool, true, false, _&&_}
 use mathlib.Core.List.{List, [], _∷_}
 use Prim.Native.Nat.{ℕ, zero, suc, _+_, _<_}

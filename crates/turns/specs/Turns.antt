@@ -63,7 +63,7 @@ none = row (pos 0) (pos 0) (pos 0)
 unfoldable pub turnOf : ℕ → Turn
 turnOf turn = times (getD (rowsOf (turn / 4)) (turn % 4) none) (getD permutations (turn / 4) none)
 
--- what a turn puts on axis 0, 1 or 2
+-- what a turn puts on axis 0, 1 or 2 (any number above is taken for 2)
 unfoldable pub signedAxis : ℕ → ℕ → ℤ
 signedAxis turn axis = cond (eqb axis 0) (turnOf turn .x) (cond (eqb axis 1) (turnOf turn .y) (turnOf turn .z))
 
@@ -111,10 +111,9 @@ pub record Rotation (m : Turn) : Type 0 where
   pub permutes : isPermutation m ≡ true
   pub keeps-hand : determinant m ≡ pos 1
 
--- what the kernels ask: a turn, an axis, and a corner of a shape
-pub record Turnable (turn axis : ℕ) (x y z : ℤ) : Type 0 where
+-- what the kernels ask: a turn, and a corner of a shape
+pub record Turnable (turn : ℕ) (x y z : ℤ) : Type 0 where
   pub turn< : turn < Limits.turns
-  pub axis< : axis < 3
   pub x-within : Within Limits.shapeReach x
   pub y-within : Within Limits.shapeReach y
   pub z-within : Within Limits.shapeReach z

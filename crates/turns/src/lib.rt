@@ -107,7 +107,7 @@ fn along_axis(k: i8, x: i32, y: i32, z: i32) -> i32
 
 // One coordinate of a turned corner.
 pub fn turned_axis(turn: usize, axis: usize, x: i32, y: i32, z: i32) -> i32
-    requires { ⌜ Turnable turn axis x y z ⌝ }
+    requires { ⌜ Turnable turn x y z ⌝ }
     ensures { λ r. ⌜ (r ≡ turnedAt turn axis x y z) × Within Limits.shapeReach r ⌝ }
 {
     let k = signed_axis(turn, axis);
@@ -116,7 +116,7 @@ pub fn turned_axis(turn: usize, axis: usize, x: i32, y: i32, z: i32) -> i32
 
 // One coordinate of a placed corner: the turned corner plus the offset.
 pub fn placed_axis(turn: usize, axis: usize, x: i32, y: i32, z: i32, offset: i32) -> i32
-    requires { ⌜ Turnable turn axis x y z × Within Limits.shapeReach offset ⌝ }
+    requires { ⌜ Turnable turn x y z × Within Limits.shapeReach offset ⌝ }
     ensures { λ r. ⌜ (r ≡ placedAt turn axis x y z offset) × Within Limits.placedReach r ⌝ }
 {
     let c = turned_axis(turn, axis, x, y, z);

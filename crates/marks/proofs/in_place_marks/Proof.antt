@@ -1,7 +1,7 @@
 -- The length, and then each axis by its own part.
 use borrow.Author.Needs.{needs}
 use mathlib.Core.Path.{sym, _∙_}
-use mathlib.Core.Bool.{true, false, not, false≢true}
+use mathlib.Core.Bool.{true, false, false≢true}
 use borrow.Author.Tests.{not-true, not-false}
 use Rattle.marks.specs.Marks.{axisOf}
 use Rattle.marks.proofs.in_place_marks.Statement.{statement}

@@ -9,7 +9,7 @@ use mir.Val.{SFits, toZ, ofZ}
 use mir.ValLaws.{toZ-ofZ}
 use Rattle.limits.specs.Limits
 use Rattle.ints.specs.Bounds.{Within, known, fits, worth-is}
-use Rattle.turns.specs.Turns.{axisOf, along}
+use Rattle.turns.specs.Turns.{axisOf}
 use Rattle.turns.specs.Range.{axis-within}
 use Rattle.turns.proofs.Signs.{read-back}
 use Rattle.turns.proofs.along_axis.Statement.{statement}

@@ -3,7 +3,7 @@ use borrow.Author.Needs.{needs}
 use mathlib.Core.Path.{_≡_, _∙_}
 use Prim.Native.Nat.{ℕ, _-_, _≤_, _<_}
 use native.Mathlib.Omega.{arith}
-use lib.ListN.{length, getD, set, take, length-set}
+use lib.ListN.{length, getD, set, length-set}
 use Rattle.limits.specs.Limits
 use Rattle.marks.specs.Keys.{keyAt, axisFrom}
 use Rattle.marks.proofs.Loops.{store-more}

@@ -1,7 +1,7 @@
 -- A place that is not taken has no key; a taken one has that of its value.
 use borrow.Author.Needs.{needs}
 use mathlib.Core.Path.{_≡_, ap, sym, _∙_, subst}
-use mathlib.Core.Bool.{Bool, true, false, _&&_, not}
+use mathlib.Core.Bool.{Bool, true, false, _&&_}
 use Rattle.limits.specs.Limits
 use borrow.Author.Tests.{not-true, not-false, lt-ltb}
 use lib.Dec.{ltb}

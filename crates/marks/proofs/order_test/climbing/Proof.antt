@@ -3,7 +3,7 @@ use borrow.Author.Needs.{needs}
 use mathlib.Core.Path.{_≡_, refl, sym, _∙_}
 use Prim.Native.Nat.{_-_, _≤_}
 use native.Mathlib.Omega.{arith}
-use lib.ListN.{length, take, drop}
+use lib.ListN.{length, drop}
 use Rattle.marks.specs.Keys.{keyOf}
 use Rattle.marks.specs.Test.{climbs}
 use Rattle.marks.proofs.Loops.{too-low, no-key, climbs-more, climbs-done}

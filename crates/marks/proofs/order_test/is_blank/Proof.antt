@@ -1,10 +1,9 @@
 -- Each round looks at one cell.
 use borrow.Author.Needs.{needs}
 use mathlib.Core.Path.{_≡_, refl, sym, _∙_}
-use mathlib.Core.Bool.{not}
 use Prim.Native.Nat.{_-_, _≤_}
 use native.Mathlib.Omega.{arith}
-use lib.ListN.{length, take, drop}
+use lib.ListN.{length, drop}
 use Rattle.marks.specs.Test.{blank}
 use Rattle.marks.proofs.Loops.{not-blank, blank-more, blank-done}
 use Rattle.marks.proofs.order_test.is_blank.Statement.{statement}

@@ -1,8 +1,7 @@
 -- Out with the marks of the place, and in with both by their keys.
 use borrow.Author.Needs.{needs}
 use mathlib.Core.Path.{_≡_, ap, sym, _∙_, subst}
-use Prim.Native.Nat.{_-_}
-use lib.ListN.{length, take}
+use lib.ListN.{length}
 use Rattle.marks.specs.Keys.{keyOf}
 use Rattle.marks.specs.Marks.{lowMark, highMark, InPlace}
 use Rattle.marks.specs.Rising.{pass}
