@@ -1,0 +1,165 @@
+-- A part in place, cell by cell, is a part that is sorted by its axis's keys; so two parts in place are one.
+-- And one handled place keeps the part in place.
+use mathlib.Core.Path.{_≡_, refl, ap, sym, _∙_, subst}
+use mathlib.Core.Logic.{_⊎_, inl, inr}
+use mathlib.Core.List.{List}
+use mathlib.Core.Bool.{Bool, true, false, cond, _&&_, false≢true}
+use Prim.Native.Nat.{ℕ, _≤_, _<_}
+use native.Mathlib.Omega.{arith}
+use borrow.Author.Tests.{lt-ltb, ltb-true}
+use lib.Dec.{eqb, ltb}
+use lib.IntN.{ℤ}
+use lib.ListN.{length, getD, replicate, length-replicate}
+use Rattle.limits.specs.Limits
+use Rattle.ints.specs.Bounds.{Within}
+use Rattle.marks.specs.Marks.{Axis, oneIf, placeOf, sideOf, valueOf, isMark, earlier, InPlace, Ranged, Agree, OthersStay}
+use Rattle.marks.specs.Keys.{noKey, keyFor, keyAt, Keyed, keyOf}
+use Rattle.marks.specs.Counts.{countOf, hit, less, and-false, oneIf≤, count-pos, count-fill, find, find-two, twice}
+use Rattle.marks.specs.Rising.{up-at, up-from, up-none, fill-up}
+use Rattle.marks.specs.Sorted.{Sorted, keyed, top-key, member, only, reordered, stays-sorted}
+use Rattle.marks.specs.Order.{mark-low, no-mark, at-none, keyed-is, fine, key-decides, keys-are}
+
+module _ (a : Axis) (r : Ranged a) (xs : List ℕ) where
+  abbrev e : ℕ → ℕ
+  e = keyAt a
+
+  mark-of : (m : ℕ) → keyed (keyAt a) m ≡ true → isMark a m ≡ true
+  mark-of m h = sym (keyed-is a r m) ∙ h
+
+  small : (m : ℕ) → isMark a m ≡ true → keyAt a m < noKey
+  small m h = ltb-true (keyAt a m) noKey (keyed-is a r m ∙ h)
+
+  not-end : (m : ℕ) → isMark a m ≡ true → m ≡ Limits.noMark → ⊥
+  not-end m h k = omega (arith, mark-low a m h .0)
+
+  strict : (x y : ℕ) → x ≤ y → (x ≡ y → ⊥) → x < y
+  strict x y l n = omega arith
+
+  pub in-place : Sorted (keyAt a) (keyed (keyAt a)) xs → InPlace a xs
+  in-place s = record { long = s .long; each = each; all = all; order = order }
+    where
+      stands : (i : ℕ) → i < Limits.axisMarks → (getD xs i 0 ≡ Limits.noMark → ⊥) → isMark a (getD xs i 0) ≡ true
+      stands i l n = mark-of (getD xs i 0) (member (keyAt a) (keyed (keyAt a)) xs s (getD xs i 0) n (count-pos xs i (omega (arith, s .long))))
+
+      each : (i : ℕ) → i < Limits.axisMarks → (getD xs i 0 ≡ Limits.noMark) ⊎ (isMark a (getD xs i 0) ≡ true)
+      each i l = elim (hit (getD xs i 0) Limits.noMark) [ inl y ↦ inl (y .0) | inr n ↦ inr (stands i l (n .0)) ]
+
+      all : (m : ℕ) → isMark a m ≡ true → (i : ℕ) × (i < Limits.axisMarks) × (getD xs i 0 ≡ m)
+      all m h =
+          let f = find m xs (omega (arith, s .once m (not-end m h), ap oneIf (keyed-is a r m ∙ h))) in
+          (f .0, omega (arith, f .1, s .long), f .2)
+
+      order : (i j : ℕ) → i < j → j < Limits.axisMarks → (getD xs j 0 ≡ Limits.noMark → ⊥) → (getD xs i 0 ≡ Limits.noMark → ⊥) × (earlier a (getD xs i 0) (getD xs j 0) ≡ true)
+      order i j l m n =
+          let mj = stands j m n in
+          let up = up-at (keyAt a) 0 xs i j (s .rising) l (omega (arith, m, s .long)) in
+          let ni : getD xs i 0 ≡ Limits.noMark → ⊥ = λ k. omega (arith, up, small (getD xs j 0) mj, ap (keyAt a) k, top-key (keyAt a) (fine a r)) in
+          let mi = stands i (omega arith) ni in
+          let lt = strict (keyAt a (getD xs i 0)) (keyAt a (getD xs j 0)) up
+          (λ k. omega (arith, twice xs i j l (omega (arith, m, s .long)) (fine a r .own (getD xs i 0) (getD xs j 0) (small (getD xs i 0) mi) k), s .once (getD xs j 0) n, oneIf≤ (keyed (keyAt a) (getD xs j 0)))) in
+          (ni, key-decides a r (getD xs i 0) (getD xs j 0) mi mj ∙ lt-ltb (keyAt a (getD xs i 0)) (keyAt a (getD xs j 0)) lt)
+
+  pub sorted : InPlace a xs → Sorted (keyAt a) (keyed (keyAt a)) xs
+  sorted p = record { long = p .long; once = λ q n. once q n (isMark a q) refl; rising = up-from (keyAt a) 0 xs (λ i l. omega arith) above }
+    where
+      stands : (i : ℕ) → i < Limits.axisMarks → (getD xs i 0 ≡ Limits.noMark → ⊥) → isMark a (getD xs i 0) ≡ true
+      stands i l n = elim (p .each i l) [ inl h ↦ absurd (n h) | inr h ↦ h ]
+
+      climbs : (i j : ℕ) → i < j → j < Limits.axisMarks → (getD xs j 0 ≡ Limits.noMark → ⊥) → keyAt a (getD xs i 0) < keyAt a (getD xs j 0)
+      climbs i j l m n =
+          let o = p .order i j l m n in
+          ltb-true (keyAt a (getD xs i 0)) (keyAt a (getD xs j 0)) (sym (key-decides a r (getD xs i 0) (getD xs j 0) (stands i (omega arith) (o .0)) (stands j m n)) ∙ o .1)
+
+      few : (q : ℕ) → (q ≡ Limits.noMark → ⊥) → countOf q xs ≤ 1
+      few q n =
+          elim (less 1 (countOf q xs)) [
+            | inl l ↦
+                let f = find-two q xs l in
+                absurd (omega (arith, climbs (f .0) (f .1) (f .2) (omega (arith, f .3, p .long)) (λ k. n (sym (f .5) ∙ k)), ap (keyAt a) (f .4 ∙ sym (f .5))))
+            | inr l ↦ l
+          ]
+
+      once : (q : ℕ) → (q ≡ Limits.noMark → ⊥) → (b : Bool) → isMark a q ≡ b → countOf q xs ≡ oneIf (keyed (keyAt a) q)
+      once q n true h =
+          let f = p .all q h in
+          omega (arith, few q n, ap oneIf (keyed-is a r q ∙ h), ap (λ (z : ℕ). countOf z xs) (f .2), count-pos xs (f .0) (omega (arith, f .1, p .long)))
+      once q n false h =
+          elim (less 0 (countOf q xs)) [
+            | inl l ↦
+                let f = find q xs l in
+                absurd (false≢true (sym h ∙ ap (isMark a) (sym (f .2)) ∙ stands (f .0) (omega (arith, f .1, p .long)) (λ k. n (sym (f .2) ∙ k))))
+            | inr l ↦ omega (arith, l, ap oneIf (keyed-is a r q ∙ h))
+          ]
+
+      above : (i j : ℕ) → i < j → j < length xs → keyAt a (getD xs i 0) ≤ keyAt a (getD xs j 0)
+      above i j l m =
+          elim (hit (getD xs j 0) Limits.noMark) [
+            | inl y ↦ omega (arith, fine a r .most (getD xs i 0), ap (keyAt a) (y .0), top-key (keyAt a) (fine a r))
+            | inr n ↦ omega (arith, climbs i j l (omega (arith, m, p .long)) (n .0))
+          ]
+
+-- an axis with the same places and values is in range too
+pub ranged-same : (a b : Axis) → Agree a b → Ranged a → Ranged b
+ranged-same a b g r m h =
+    let l = mark-low b m h in
+    let t : a .taken (placeOf m) ≡ true = g .taken (placeOf m) (omega (arith, l .0)) ∙ l .1 in
+    let is : isMark a m ≡ true = ap (λ (c : Bool). c && a .taken (placeOf m)) (lt-ltb m Limits.axisMarks (l .0)) ∙ t in
+    subst (Within Limits.placedReach)
+    (ap (λ (v : ℤ). cond (eqb (sideOf m) 0) v (a .high (placeOf m))) (g .low (placeOf m) (omega (arith, l .0)) t)
+    ∙ ap (λ (v : ℤ). cond (eqb (sideOf m) 0) (b .low (placeOf m)) v) (g .high (placeOf m) (omega (arith, l .0)) t))
+    (r m is)
+
+-- two parts in place for the same places and values are one
+pub one-part : (a : Axis) → Ranged a → (xs ys : List ℕ) → InPlace a xs → InPlace a ys → xs ≡ ys
+one-part a r xs ys p q = only (keyAt a) xs ys (fine a r) (sorted a r xs p) (sorted a r ys q)
+
+-- no place is taken
+pub none-in-place : (a : Axis) → ((place : ℕ) → a .taken place ≡ false) → InPlace a (replicate Limits.axisMarks Limits.noMark)
+none-in-place a h = in-place a (λ m k. absurd (false≢true (sym (none m) ∙ k))) (replicate Limits.axisMarks Limits.noMark) record {
+  long = length-replicate {A = ℕ} Limits.axisMarks Limits.noMark;
+  once = λ q n. count-fill q Limits.noMark Limits.axisMarks n ∙ sym (ap oneIf (keyed-is a ranged q ∙ none q));
+  rising = fill-up (keyAt a) 0 Limits.noMark Limits.axisMarks List.[] (λ v. omega (arith, fine a ranged .most v, top-key (keyAt a) (fine a ranged))) (omega arith) (up-none (keyAt a) 0);
+}
+  where
+    none : (m : ℕ) → isMark a m ≡ false
+    none m = ap (λ (b : Bool). ltb m Limits.axisMarks && b) (h (placeOf m)) ∙ and-false (ltb m Limits.axisMarks)
+
+    ranged : Ranged a
+    ranged m k = absurd (false≢true (sym (none m) ∙ k))
+
+-- a mark of a place that stays keeps its key
+key-stays : (old new : Axis) (q : ℕ) → old .taken (placeOf q) ≡ new .taken (placeOf q) → (old .taken (placeOf q) ≡ true → (old .low (placeOf q) ≡ new .low (placeOf q)) × (old .high (placeOf q) ≡ new .high (placeOf q))) → keyAt old q ≡ keyAt new q
+unfolding keyAt
+key-stays old new q t v = each (old .taken (placeOf q)) refl
+  where
+    marks-same : isMark old q ≡ isMark new q
+    marks-same = ap (λ (b : Bool). ltb q Limits.axisMarks && b) t
+
+    key-same : (old .low (placeOf q) ≡ new .low (placeOf q)) × (old .high (placeOf q) ≡ new .high (placeOf q)) → keyFor (valueOf old q) q ≡ keyFor (valueOf new q) q
+    key-same h = ap (λ (v : ℤ). keyFor v q) (ap (λ (l : ℤ). cond (eqb (sideOf q) 0) l (old .high (placeOf q))) (h .0) ∙ ap (λ (l : ℤ). cond (eqb (sideOf q) 0) (new .low (placeOf q)) l) (h .1))
+
+    each : (b : Bool) → old .taken (placeOf q) ≡ b → keyAt old q ≡ keyAt new q
+    each true h = ap (λ (b : Bool). cond b (keyFor (valueOf old q) q) noKey) marks-same ∙ ap (λ (k : ℕ). cond (isMark new q) k noKey) (key-same (v h))
+    each false h =
+        let none : isMark old q ≡ false = ap (λ (b : Bool). ltb q Limits.axisMarks && b) h ∙ and-false (ltb q Limits.axisMarks) in
+        at-none old q none ∙ sym (at-none new q (sym marks-same ∙ none))
+
+pub stay : (old new : Axis) (place : ℕ) → OthersStay place old new → (q : ℕ) → (placeOf q ≡ place → ⊥) → keyAt old q ≡ keyAt new q
+stay old new place o q n =
+    elim (less q Limits.axisMarks) [
+      | inl l ↦ key-stays old new q (o .taken (placeOf q) (omega arith) n) (λ h. (o .low (placeOf q) (omega arith) n h, o .high (placeOf q) (omega arith) n h))
+      | inr l ↦ at-none old q (no-mark old q l) ∙ sym (at-none new q (no-mark new q l))
+    ]
+
+-- a place, a move or a removal keeps the part in place
+pub stays-in-place : (old new : Axis) (keys : List ℕ) (place : ℕ) (xs : List ℕ) → place < Limits.places → Ranged old → Keyed new keys → OthersStay place old new → InPlace old xs → InPlace new (reordered (keyOf keys) place xs)
+stays-in-place old new keys place xs l ro k o p =
+    subst (λ (e : ℕ → ℕ). InPlace new (reordered e place xs)) (sym (keys-are new keys k))
+    (in-place new (k .ranged) (reordered (keyAt new) place xs) (stays-sorted (keyAt old) (keyAt new) xs place l (fine old ro) (fine new (k .ranged)) (stay old new place o) (sorted old ro xs p)))
+
+-- the keys of one axis are those of every axis that has the same places and values
+pub keyed-same : (a b : Axis) (keys : List ℕ) → Agree a b → Keyed a keys → Keyed b keys
+keyed-same a b keys g k = record {
+  ranged = ranged-same a b g (k .ranged);
+  is = λ m l. k .is m l ∙ key-stays a b m (g .taken (placeOf m) (omega arith)) (λ h. (g .low (placeOf m) (omega arith) h, g .high (placeOf m) (omega arith) h));
+}

@@ -1,0 +1,42 @@
+-- The key of a mark: one number that decides document 01's order, so that code and laws compare numbers only.
+-- What is no mark of a taken place has the key `noKey`, above every mark's.
+use mathlib.Core.Path.{_≡_}
+use mathlib.Core.List.{List}
+use mathlib.Core.Bool.{Bool, false, cond}
+use Prim.Native.Nat.{ℕ, _+_, _*_, _<_}
+use lib.Dec.{ltb}
+use lib.IntN.{ℤ, pos, natAbs, _+ℤ_}
+use lib.ListN.{getD}
+use Rattle.limits.specs.Limits
+use Rattle.marks.specs.Marks.{Axis, Axes, axisOf, placeOf, sideOf, valueOf, isMark, Ranged}
+
+abbrev pub noKey : ℕ
+noKey = 4294967295
+
+-- a value in range, counted from the least
+abbrev pub raised : ℤ → ℕ
+raised value = natAbs (value +ℤ pos Limits.placedReach)
+
+abbrev pub keyFor : ℤ → ℕ → ℕ
+keyFor value mark = (raised value * 2 + sideOf mark) * Limits.places + placeOf mark
+
+unfoldable pub keyAt : Axis → ℕ → ℕ
+keyAt a mark = cond (isMark a mark) (keyFor (valueOf a mark) mark) noKey
+
+-- a list of keys, one for each number that a mark can be, is the axis's
+pub record Keyed (a : Axis) (keys : List ℕ) : Type 0 where
+  pub ranged : Ranged a
+  pub is : (mark : ℕ) → mark < Limits.axisMarks → getD keys mark 0 ≡ keyAt a mark
+
+pub record KeyedMarks (a : Axes) (x y z : List ℕ) : Type 0 where
+  pub on-x : Keyed (axisOf a 0) x
+  pub on-y : Keyed (axisOf a 1) y
+  pub on-z : Keyed (axisOf a 2) z
+
+-- the axis that lists of low and high values give, with the places that are taken
+abbrev pub axisFrom : List ℤ → List ℤ → List Bool → Axis
+axisFrom lows highs taken = record { taken = λ place. getD taken place false; low = λ place. getD lows place (pos 0); high = λ place. getD highs place (pos 0) }
+
+-- the key that the list has for a number of a part
+abbrev pub keyOf : List ℕ → ℕ → ℕ
+keyOf keys q = cond (ltb q Limits.axisMarks) (getD keys q 0) noKey

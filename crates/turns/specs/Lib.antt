@@ -1,0 +1,4 @@
+pub mod Turns
+pub mod Rule
+pub mod Range
+pub mod Table
