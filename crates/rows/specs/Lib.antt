@@ -1,0 +1,5 @@
+pub mod Rows
+pub mod Cells
+pub mod Counting
+pub mod Changes
+pub mod Listing
