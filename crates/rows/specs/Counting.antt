@@ -55,7 +55,7 @@ count-most v [] = omega arith
 count-most v (x ∷ xs) = omega (arith, oneIf-most (eqb x v), count-most v xs)
 
 -- of no rows the book is 0 throughout
-zero-at : (n k : ℕ) → getD (replicate {A = ℕ} n 0) k 0 ≡ 0
+pub zero-at : (n k : ℕ) → getD (replicate {A = ℕ} n 0) k 0 ≡ 0
 zero-at n k = by-less k n (λ h. getD-replicate n k 0 0 h) (λ h. List·getD-eq-default (replicate n 0) 0 (rw (length-replicate {A = ℕ} n 0) h))
 
 pub book-none : BookInOrder [] (replicate Limits.book 0)

@@ -3,3 +3,4 @@ pub mod Cells
 pub mod Counting
 pub mod Changes
 pub mod Listing
+pub mod Handling
