@@ -1,6 +1,6 @@
 -- Laws of the cells: a cell is the row of one pair of places only, and rows are in order cell by cell.
 -- With them the tests of one cell, of one pair and of one place decide what they are to decide.
-use Prim.Native.Nat.{ℕ, zero, suc, _+_, _*_, _/_, _%_, _≤_, _<_}
+use Prim.Native.Nat.{ℕ, zero, suc, _*_, _/_, _%_, _≤_, _<_}
 use mathlib.Core.Path.{_≡_, refl, sym, ap, _∙_, subst}
 use mathlib.Core.List.{List, [], _∷_}
 use mathlib.Core.Bool.{Bool, true, false, not}

@@ -1,7 +1,7 @@
 -- Laws of the changes: what a store does to the rows, pair by pair, and what is left when it is done for every other place.
 -- Rows that agree pair by pair are equal, so a change has one outcome.
-use Prim.Native.Nat.{ℕ, zero, suc, _+_, _*_, _/_, _%_, _≤_, _<_}
-use mathlib.Core.Path.{_≡_, refl, sym, ap, _∙_, subst}
+use Prim.Native.Nat.{ℕ, _+_, _/_, _%_, _<_}
+use mathlib.Core.Path.{_≡_, refl, sym, _∙_, subst}
 use mathlib.Core.List.{List}
 use mathlib.Core.Logic.{_⊎_, inl, inr}
 use native.Mathlib.Omega.{arith}
@@ -9,7 +9,7 @@ use lib.ListN.{length, getD, set, length-set}
 use lib.Seq.{getD-set-same, getD-set-other, ext-getD}
 use Rattle.limits.specs.Limits
 use Rattle.rows.specs.Rows.{cell, rowAt, Cleared, Put}
-use Rattle.rows.specs.Cells.{by-same, cell-once, cell-below, cell-of}
+use Rattle.rows.specs.Cells.{by-same, cell-once, cell-of}
 
 -- the row of the pair that is stored, and any other
 pub row-same : (rows : List ℕ) (low high v : ℕ) → length rows ≡ Limits.rows → low < Limits.places → high < Limits.places

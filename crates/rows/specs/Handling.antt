@@ -1,6 +1,6 @@
 -- Laws for the commands of a desk: rows stay in order when a place is emptied and its rows are cleared, and when the rows of a handled place
 -- are put one after the other. A desk started afresh has rows and tallies in order.
-use Prim.Native.Nat.{ℕ, zero, suc, _+_, _*_, _≤_, _<_}
+use Prim.Native.Nat.{ℕ, zero, suc, _+_, _*_, _/_, _%_, _<_}
 use mathlib.Core.Path.{_≡_, refl, sym, ap, _∙_, subst}
 use mathlib.Core.List.{List}
 use mathlib.Core.Bool.{Bool, true, false, not}
@@ -11,13 +11,13 @@ use lib.ListN.{length, getD, replicate, length-replicate, getD-replicate}
 use borrow.Author.Tests.{ne-eqb}
 use Rattle.limits.specs.Limits
 use Rattle.limits.specs.Decides.{Decides}
-use Rattle.rows.specs.Rows.{Taken, PairOf, rowAt, Verdict, RowsInOrder, BookInOrder, oneIf, countOf, Cleared, Put}
-use Rattle.rows.specs.Cells.{by-same, by-less, cell-below, taken-decided}
+use Rattle.rows.specs.Rows.{Taken, PairOf, rowAt, Verdict, RowsInOrder, BookInOrder, oneIf, countOf, contact, Cleared, Put}
+use Rattle.rows.specs.Cells.{by-same, by-less, cell-below, one-cell, taken-decided}
 use Rattle.rows.specs.Counting.{zero-at, book-none}
 use Rattle.rows.specs.Changes.{rows-once}
 
 -- two places are a pair of taken ones or not
-by-taken : {C : Type 0} (poses : List ℕ) (p : ℕ) → p < Limits.places → (Taken poses p → C) → ((Taken poses p → ⊥) → C) → C
+pub by-taken : {C : Type 0} (poses : List ℕ) (p : ℕ) → p < Limits.places → (Taken poses p → C) → ((Taken poses p → ⊥) → C) → C
 by-taken {C} poses p h f g = go (eqb (getD poses (2 * p) 0) 0) (taken-decided poses p h)
   where
     go : (b : Bool) → Decides (not b) (Taken poses p) → C
@@ -35,6 +35,14 @@ by-pair poses low high h k f g =
     (λ b. g (λ p. b (p .second))))
     (λ a. g (λ p. a (p .first))))
     (λ le. g (λ p. let r = p .rising in omega arith))
+
+-- where rows are in order, a row that is listed is a pair's, the lower place first
+pub contact-pair : {poses rows : List ℕ} → RowsInOrder poses rows → (k : ℕ) → k < Limits.rows → (oneIf (contact (getD rows k 0)) ≡ 0 → ⊥)
+    → PairOf poses (k / Limits.places) (k % Limits.places)
+contact-pair {poses} {rows} o k h c =
+    by-pair poses (k / Limits.places) (k % Limits.places) (omega arith) (omega arith)
+    (λ p. p)
+    (λ f. absurd (c (ap (λ (v : ℕ). oneIf (contact v)) (one-cell o k h .other f))))
 
 -- "every other shape and place stays": but for p, the places hold what they held
 pub record OthersStay (p : ℕ) (before after : List ℕ) : Type 0 where

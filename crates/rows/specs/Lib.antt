@@ -4,3 +4,4 @@ pub mod Counting
 pub mod Changes
 pub mod Listing
 pub mod Handling
+pub mod Sums

@@ -1,10 +1,10 @@
 -- Laws of the listing: one row more, the stores that write it, and what each way out has listed.
 -- Two listings that are allowed for the same rows and room are equal (`lists-once`).
 use Prim.Native.Nat.{ℕ, zero, suc, _+_, _*_, _/_, _%_, _≤_, _<_}
-use mathlib.Core.Path.{_≡_, refl, sym, ap, ap₂, _∙_, subst}
+use mathlib.Core.Path.{_≡_, refl, sym, ap, ap₂, _∙_}
 use mathlib.Core.List.{List, [], _∷_, _++_, append-assoc, append-nil}
 use mathlib.Core.Bool.{Bool, true, false}
-use mathlib.Core.Logic.{_⊎_, inl, inr}
+use mathlib.Core.Logic.{inl, inr}
 use native.Mathlib.Nat.{zero-add}
 use native.Mathlib.Numerals.{add-one}
 use native.Mathlib.Omega.{arith}
@@ -12,7 +12,8 @@ use lib.ListN.{length, getD, set, take, drop, length-append}
 use lib.Seq.{sets, sets-eq, take-append-seam, drop-append-add, drop-drop}
 use Rattle.limits.specs.Limits
 use Rattle.limits.specs.Lowest.{lowest-once}
-use Rattle.rows.specs.Rows.{oneIf, contact, onlyIf, listed, contactsFrom, contacts, refusals, numberOf, rowsOf, Lists}
+use Rattle.rows.specs.Rows.{cell, oneIf, contact, onlyIf, listed, contactsFrom, contacts, refusals, Lists}
+use Rattle.rows.specs.Cells.{low-of, high-of}
 use Rattle.rows.specs.declared.Listed.{Listed}
 use Rattle.rows.specs.declared.Listed.the-variants.{Rows, Refused}
 
@@ -41,6 +42,10 @@ listed-none k v e = when-zero (contact v) _ e
 pub listed-three : (k v : ℕ) → (oneIf (contact v) ≡ 0 → ⊥) → listed k v ≡ k / Limits.places ∷ k % Limits.places ∷ v ∷ []
 unfolding listed
 listed-three k v e = when-one (contact v) _ e
+
+-- "three bytes (lower place, higher place, verdict)"
+pub listed-pair : (low high v : ℕ) → high < Limits.places → (oneIf (contact v) ≡ 0 → ⊥) → listed (cell low high) v ≡ low ∷ high ∷ v ∷ []
+listed-pair low high v h e = listed-three (cell low high) v e ∙ ap₂ (λ (a b : ℕ). a ∷ b ∷ v ∷ []) (low-of low high h) (high-of low high h)
 
 -- three stores, one after the other
 pub three-stores : (room : List ℕ) (at a b v : ℕ) → set (set (set room at a) (at + 1) b) (at + 2) v ≡ sets room at (a ∷ b ∷ v ∷ [])

@@ -3,7 +3,7 @@
 use Prim.Native.Nat.{ℕ, zero, suc, _+_, _*_, _/_, _%_, _≤_, _<_}
 use mathlib.Core.Path.{_≡_}
 use mathlib.Core.List.{List, [], _∷_, _++_}
-use mathlib.Core.Bool.{Bool, true, false, _||_}
+use mathlib.Core.Bool.{Bool, true, false, not, _||_}
 use mathlib.Core.Logic.{_⊎_}
 use lib.Dec.{eqb}
 use lib.ListN.{length, getD, drop}
@@ -54,6 +54,17 @@ pub record BookInOrder (rows book : List ℕ) : Type 0 where
   pub size : length book ≡ Limits.book
   pub counts : (v : ℕ) → Verdict v → getD book v 0 ≡ countOf v rows
   pub rest : (k : ℕ) → Limits.tallies ≤ k → getD book k 0 ≡ 0
+
+-- "with n places taken": how many are
+unfoldable pub sumTo : (ℕ → ℕ) → ℕ → ℕ
+sumTo f zero = 0
+sumTo f (suc n) = sumTo f n + f n
+
+abbrev pub oneIfTaken : List ℕ → ℕ → ℕ
+oneIfTaken poses p = oneIf (not (eqb (getD poses (2 * p) 0) 0))
+
+abbrev pub takenPlaces : List ℕ → ℕ
+takenPlaces poses = sumTo (oneIfTaken poses) Limits.places
 
 -- ---- changes
 

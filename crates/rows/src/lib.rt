@@ -2,7 +2,7 @@
 // The row of the places low < high stands at low * PLACES + high; every other cell holds NO_ROW.
 ghost use mathlib.Core.Path.{_≡_};
 ghost use mathlib.Core.List.{_++_};
-ghost use Prim.Native.Nat.{_≤_, _<_, _+_, _*_, _/_, _%_, _^_};
+ghost use Prim.Native.Nat.{_≤_, _<_, _+_, _*_, _/_, _%_};
 ghost use lib.ListN.{length, getD, drop, replicate};
 ghost use lib.Seq.{sets};
 ghost use Rattle.limits.specs.Limits;
