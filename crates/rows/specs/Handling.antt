@@ -11,12 +11,12 @@ use lib.ListN.{length, getD, replicate, length-replicate, getD-replicate}
 use borrow.Author.Tests.{ne-eqb}
 use Rattle.limits.specs.Limits
 use Rattle.limits.specs.Decides.{Decides}
-use Rattle.rows.specs.Rows.{Taken, PairOf, rowAt, Verdict, RowsInOrder, BookInOrder, oneIf, countOf, contact, Cleared, Put}
+use Rattle.rows.specs.Rows.{Taken, PairOf, rowAt, Verdict, RowsInOrder, BookInOrder, oneIf, countOf, contact, Cleared, Put, OthersStay, Names, Joins, Handled}
 use Rattle.rows.specs.Cells.{by-same, by-less, cell-below, one-cell, taken-decided}
 use Rattle.rows.specs.Counting.{zero-at, book-none}
 use Rattle.rows.specs.Changes.{rows-once}
 
--- two places are a pair of taken ones or not
+-- a place is taken or not, and two are a pair or not
 pub by-taken : {C : Type 0} (poses : List ℕ) (p : ℕ) → p < Limits.places → (Taken poses p → C) → ((Taken poses p → ⊥) → C) → C
 by-taken {C} poses p h f g = go (eqb (getD poses (2 * p) 0) 0) (taken-decided poses p h)
   where
@@ -44,10 +44,7 @@ contact-pair {poses} {rows} o k h c =
     (λ p. p)
     (λ f. absurd (c (ap (λ (v : ℕ). oneIf (contact v)) (one-cell o k h .other f))))
 
--- "every other shape and place stays": but for p, the places hold what they held
-pub record OthersStay (p : ℕ) (before after : List ℕ) : Type 0 where
-  pub same : (q : ℕ) → q < Limits.places → (q ≡ p → ⊥) → getD after (2 * q) 0 ≡ getD before (2 * q) 0
-
+-- ---- the poses change at p only
 module _ {p : ℕ} {before after : List ℕ} (s : OthersStay p before after) where
   stays : {q : ℕ} → (q ≡ p → ⊥) → Taken before q → Taken after q
   stays {q} ne t = record { place = t .place; holds = λ e. t .holds (sym (s .same q (t .place) ne) ∙ e) }
@@ -87,17 +84,6 @@ rows-after-clearing {p} {before} {after} {rows} {cleared} s empty c o = record {
 }
 
 -- ---- a handled place: its rows are put one after the other, for the other places below n so far
-
--- the row of low and high names p, and a place below n
-abbrev pub Names : ℕ → ℕ → ℕ → ℕ → Type 0
-Names p n low high = ((low ≡ p) × (high < n)) ⊎ ((high ≡ p) × (low < n))
-
--- the rows of p with the taken places below n are right, "every other row stays". What is right is the caller's to say
-pub record Handled (Right : ℕ → ℕ → ℕ → Type 0) (poses : List ℕ) (p n : ℕ) (before after : List ℕ) : Type 0 where
-  pub size : length after ≡ length before
-  pub right : (low high : ℕ) → PairOf poses low high → Names p n low high → Right low high (rowAt after low high)
-  pub kept : (low high : ℕ) → low < Limits.places → high < Limits.places → (PairOf poses low high → Names p n low high → ⊥) → rowAt after low high ≡ rowAt before low high
-
 names-none : {p low high : ℕ} → Names p 0 low high → ⊥
 names-none (inl c) = omega (arith, c .1)
 names-none (inr c) = omega (arith, c .1)
@@ -105,10 +91,6 @@ names-none (inr c) = omega (arith, c .1)
 names-more : {p n low high : ℕ} → Names p n low high → Names p (n + 1) low high
 names-more (inl c) = inl (c .0, omega (arith, c .1))
 names-more (inr c) = inr (c .0, omega (arith, c .1))
-
--- the pair of p and n, whichever is the lower
-abbrev pub Joins : ℕ → ℕ → ℕ → ℕ → Type 0
-Joins p n low high = ((low ≡ p) × (high ≡ n)) ⊎ ((low ≡ n) × (high ≡ p))
 
 -- a row named with n + 1 is named with n, or joins p and n
 names-last : {p n low high : ℕ} → Names p (n + 1) low high → Names p n low high ⊎ Joins p n low high

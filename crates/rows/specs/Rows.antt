@@ -80,6 +80,24 @@ pub record Put (low high v : ℕ) (before after : List ℕ) : Type 0 where
   pub here : rowAt after low high ≡ v
   pub kept : (a b : ℕ) → a < Limits.places → b < Limits.places → ((a ≡ low) × (b ≡ high) → ⊥) → rowAt after a b ≡ rowAt before a b
 
+-- the pair of p and n, whichever is the lower; and a pair of p and a place below n
+abbrev pub Joins : ℕ → ℕ → ℕ → ℕ → Type 0
+Joins p n low high = ((low ≡ p) × (high ≡ n)) ⊎ ((low ≡ n) × (high ≡ p))
+
+abbrev pub Names : ℕ → ℕ → ℕ → ℕ → Type 0
+Names p n low high = ((low ≡ p) × (high < n)) ⊎ ((high ≡ p) × (low < n))
+
+-- "After an accepted place or move every row that names the handled piece is the right one [..]; every other row stays": so it is for the
+-- piece at p and the taken places below n, and for all of them where n is all places. Which verdict is right is the caller's to say
+pub record Handled (Right : ℕ → ℕ → ℕ → Type 0) (poses : List ℕ) (p n : ℕ) (before after : List ℕ) : Type 0 where
+  pub size : length after ≡ length before
+  pub right : (low high : ℕ) → PairOf poses low high → Names p n low high → Right low high (rowAt after low high)
+  pub kept : (low high : ℕ) → low < Limits.places → high < Limits.places → (PairOf poses low high → Names p n low high → ⊥) → rowAt after low high ≡ rowAt before low high
+
+-- "every other shape and place stays": but for p, the places of the poses hold the shapes that they held
+pub record OthersStay (p : ℕ) (before after : List ℕ) : Type 0 where
+  pub same : (q : ℕ) → q < Limits.places → (q ≡ p → ⊥) → getD after (2 * q) 0 ≡ getD before (2 * q) 0
+
 -- ---- the listing
 
 -- "rows 2 and 3"
