@@ -1,0 +1,187 @@
+//! Long runs on crowded small desks: shapes of a few steps at offsets of a few steps, so that
+//! pieces touch, overlap and part all the time; now and then far ends, full hulls, a full desk.
+
+use super::dice::Dice;
+use super::script::Script;
+use super::shapes::{any, ball, block, numbers, Corner};
+use crate::desk::{PLACES, SHAPES};
+
+/// How a desk is laid out: shapes within reach, offsets at multiples of a unit.
+struct Layout {
+    reach: i64,
+    unit: i64,
+    spread: i64,
+    most_places: usize,
+}
+
+fn layout(dice: &mut Dice) -> Layout {
+    let (reach, unit, spread) = match dice.below(10) {
+        0 => (1, 1, 2),
+        1..=4 => (3, 1, 4),
+        5 | 6 => (64, 32, 4),
+        7 => (20, 1, 30),
+        8 => (4_096, 2_048, 6),
+        _ => (65_536, 32_768, 2),
+    };
+    let most_places = dice.pick(&[2, 3, 4, 5, 6, 8, 8, 12, 16, 24]);
+    Layout {
+        reach,
+        unit,
+        spread,
+        most_places,
+    }
+}
+
+fn offset(dice: &mut Dice, layout: &Layout) -> [i64; 3] {
+    [0; 3].map(|_: i64| {
+        let whole = layout.unit * dice.between(-layout.spread, layout.spread);
+        let nudged = if dice.once_in(6) {
+            whole + dice.pick(&[-1, 1])
+        } else {
+            whole
+        };
+        nudged.clamp(-65_536, 65_536)
+    })
+}
+
+fn shape(dice: &mut Dice, layout: &Layout) -> Vec<Corner> {
+    match dice.below(12) {
+        0 => block([0; 3], [layout.reach; 3]),
+        1 => vec![[0; 3]],
+        2 if dice.once_in(4) => ball(dice, layout.reach.max(20)),
+        _ => any(dice, layout.reach),
+    }
+}
+
+pub fn stretch(script: &mut Script, dice: &mut Dice) {
+    script.start_afresh();
+    let layout = layout(dice);
+    for _ in 0..2 + dice.below(6) {
+        load(script, dice, &layout);
+    }
+    let length = dice.pick(&[20, 60, 120, 240]);
+    for _ in 0..length {
+        one_command(script, dice, &layout);
+    }
+    questions(script, dice);
+    if dice.once_in(30) {
+        full_desk(script, dice);
+    }
+}
+
+fn load(script: &mut Script, dice: &mut Dice, layout: &Layout) {
+    let mut told = vec![dice.below(SHAPES) as i64];
+    told.extend(numbers(&shape(dice, layout)));
+    script.tell("load", &told);
+}
+
+fn loaded(script: &Script) -> Vec<i64> {
+    let shapes = (0..SHAPES).filter(|&shape| script.desk().loaded(shape));
+    shapes.map(|shape| shape as i64).collect()
+}
+
+fn turn(dice: &mut Dice) -> i64 {
+    if dice.once_in(2) {
+        0
+    } else {
+        dice.between(0, 23)
+    }
+}
+
+fn place(script: &mut Script, dice: &mut Dice, layout: &Layout) {
+    let places = if layout.most_places < 8 { 8 } else { PLACES };
+    let place = dice.below(places) as i64;
+    let shape = dice.pick(&loaded(script));
+    let turn = turn(dice);
+    let [x, y, z] = offset(dice, layout);
+    script.tell("place", &[place, shape, turn, x, y, z]);
+}
+
+fn one_command(script: &mut Script, dice: &mut Dice, layout: &Layout) {
+    let taken = script.desk().taken_places();
+    if loaded(script).is_empty() {
+        load(script, dice, layout);
+    } else if taken.len() < 2 || (taken.len() < layout.most_places && dice.once_in(3)) {
+        place(script, dice, layout);
+    } else {
+        with_pieces(script, dice, layout, &taken);
+    }
+}
+
+/// A command on a desk that holds at least two pieces.
+fn with_pieces(script: &mut Script, dice: &mut Dice, layout: &Layout, taken: &[usize]) {
+    let piece = dice.pick(taken) as i64;
+    match dice.below(40) {
+        0..=13 => {
+            let turn = turn(dice);
+            let [x, y, z] = offset(dice, layout);
+            script.tell("move", &[piece, turn, x, y, z]);
+        }
+        14..=19 => nudge(script, dice, piece as usize),
+        20..=22 => script.tell("remove", &[piece]),
+        23..=31 => script.tell("pair", &[piece, dice.pick(taken) as i64]),
+        32..=34 => script.say("contacts"),
+        35 => script.say("tallies"),
+        36 => script.say("rows"),
+        37 if dice.once_in(3) => script.say("marks"),
+        38 if dice.once_in(2) => script.say("report"),
+        39 => load(script, dice, layout),
+        _ => place(script, dice, layout),
+    }
+}
+
+/// The same pose but for one step, or for nothing at all.
+fn nudge(script: &mut Script, dice: &mut Dice, place: usize) {
+    let desk = script.desk();
+    let turn = desk.cell(crate::desk::Part::Poses, 2 * place + 1) as i64;
+    let mut offset = desk.offset(place).map(|k| k as i64);
+    let axis = dice.below(3);
+    offset[axis] = (offset[axis] + dice.between(-1, 1)).clamp(-65_536, 65_536);
+    let [x, y, z] = offset;
+    script.tell("move", &[place as i64, turn, x, y, z]);
+}
+
+pub fn questions(script: &mut Script, dice: &mut Dice) {
+    let all = ["contacts", "rows", "tallies", "marks", "report"];
+    for question in all {
+        if dice.once_in(2) {
+            script.say(question);
+        }
+    }
+}
+
+/// All 64 places taken, room for the whole listing or not, and then some moves.
+fn full_desk(script: &mut Script, dice: &mut Dice) {
+    script.start_afresh();
+    let mut told = vec![0];
+    told.extend(numbers(&block([0; 3], [4; 3])));
+    script.tell("load", &told);
+    let layout = Layout {
+        reach: 4,
+        unit: 2,
+        spread: 5,
+        most_places: PLACES,
+    };
+    let mut places: Vec<i64> = (0..PLACES as i64).collect();
+    dice.shuffle(&mut places);
+    for place in places {
+        let [x, y, z] = offset(dice, &layout);
+        script.tell("place", &[place, 0, dice.between(0, 23), x, y, z]);
+    }
+    for question in [
+        "contacts",
+        "rows",
+        "marks",
+        "room 30",
+        "contacts",
+        "room 8192",
+    ] {
+        script.say(question);
+    }
+    for _ in 0..20 {
+        let [x, y, z] = offset(dice, &layout);
+        script.tell("move", &[dice.below(PLACES) as i64, 0, x, y, z]);
+    }
+    script.say("tallies");
+    script.say("marks");
+}
