@@ -88,7 +88,7 @@ pub fn blank(script: &mut Script, dice: &mut Dice) {
         patterns = patterns.map(|pattern| pattern & 0x7fff_ffff);
     }
     let words = hex(dice, patterns);
-    let short = dice.once_in(6);
+    let short = dice.once_in(3);
     if short {
         let needed = blank.numbers() as i64;
         let room = dice.pick(&[0, needed - 1, needed, needed + 1]);

@@ -229,9 +229,11 @@ fn placed_by_hand(script: &mut Script, dice: &mut Dice) {
     if after.place(place as Number, shape, turn, offset).is_err() {
         return;
     }
-    let mut cells = pose_cells(place);
-    cells.extend(changed_cells(&before, &after));
+    // Turn and offset mean nothing yet; what they held before is not to be leant on.
+    let mut cells = changed_cells(&before, &after);
+    cells.push((Part::Poses, 2 * place));
     dice.shuffle(&mut cells);
+    cells.splice(0..0, pose_cells(place));
     for (part, cell) in cells {
         script.spoil(part, cell, after.cell(part, cell));
         if dice.once_in(12) {
@@ -243,9 +245,9 @@ fn placed_by_hand(script: &mut Script, dice: &mut Dice) {
     script.say("tallies");
 }
 
-/// The cells of a pose, which are written even where they seem to hold the value already.
+/// Turn and offset, which are written even where they seem to hold the value already.
 fn pose_cells(place: usize) -> Vec<(Part, usize)> {
-    let mut cells = vec![(Part::Poses, 2 * place), (Part::Poses, 2 * place + 1)];
+    let mut cells = vec![(Part::Poses, 2 * place + 1)];
     cells.extend((0..3).map(|axis| (Part::Offsets, 3 * place + axis)));
     cells
 }
