@@ -4,6 +4,9 @@
 use crate::point::{cross, divisor, dot, minus, Number, Point, ORIGIN};
 use crate::verdict::{decide, Verdict, Weighed};
 
+/// Of two lists that meet, so many corners at most are needed to meet.
+const MOST_LEFT: usize = 5;
+
 /// Corner numbers of the two lists that are still in.
 #[derive(Clone)]
 struct Kept {
@@ -90,14 +93,14 @@ fn weights(p: &[Point]) -> Option<Vec<Number>> {
 /// A balance of two lists that meet. Two that do not have none.
 pub fn balance(first: &[Point], second: &[Point]) -> Option<Vec<Weighed>> {
     let kept = struck_out(first, second);
+    if kept.len() > MOST_LEFT {
+        return None;
+    }
     let mut all = Vec::new();
     for &a in &kept.first {
         for &b in &kept.second {
             all.push((a, b, minus(first[a], second[b])));
         }
-    }
-    if all.len() > 12 {
-        return None;
     }
     (1u32..1 << all.len())
         .filter(|subset| subset.count_ones() <= 4)

@@ -3,9 +3,7 @@
 
 use crate::point::{Number, Point, ORIGIN};
 use crate::program::{Expected, Program};
-use crate::verdict::{
-    decide, direction_in_bounds, is_balance, is_below, is_not_above, Verdict, Weighed,
-};
+use crate::verdict::{decide, direction_in_bounds, is_balance, is_below, is_not_above, Weighed};
 use crate::words::passed_over;
 use std::io::{self, BufRead, Write};
 
@@ -100,33 +98,22 @@ fn verdict_fault(answer: &[u8], first: &[Point], second: &[Point], search: bool)
     if proved && !search {
         return None;
     }
-    let verdict: Verdict = right();
+    let verdict = right();
     (verdict.number() != claim.verdict).then(|| format!("0 {} ..", verdict.number()))
 }
 
-/// The lines of an answers file, one after the other.
-struct Answers<R> {
-    lines: R,
-}
-
-impl<R: BufRead> Answers<R> {
-    fn next(&mut self) -> io::Result<Option<Vec<u8>>> {
-        next_line(&mut self.lines)
-    }
-
-    /// A refusal or `?` is one line; a report goes on up to its line `end`.
-    fn report_fault(&mut self, first: &[u8]) -> io::Result<Option<String>> {
-        let one_line = first == b"?" || plain_numbers(first).is_some();
-        let mut last = first.to_vec();
-        while !one_line && last != b"end" {
-            match self.next()? {
-                Some(line) => last = line,
-                None => break,
-            }
+/// A refusal or `?` is one line; a report goes on up to its line `end`.
+fn report_fault(first: &[u8], answers: &mut impl BufRead) -> io::Result<Option<String>> {
+    let one_line = first == b"?" || plain_numbers(first).is_some();
+    let mut last = first.to_vec();
+    while !one_line && last != b"end" {
+        match next_line(answers)? {
+            Some(line) => last = line,
+            None => break,
         }
-        let fault = String::from("several lines, the last of them `end`");
-        Ok((last != b"end").then_some(fault))
     }
+    let fault = String::from("several lines, the last of them `end`");
+    Ok((last != b"end").then_some(fault))
 }
 
 /// The next line without its byte 10; the last line may lack it.
@@ -155,11 +142,10 @@ fn readable(bytes: &[u8]) -> String {
 /// Judges all answers, and writes what is wrong and the count.
 pub fn judge(
     mut commands: impl BufRead,
-    answers: impl BufRead,
+    mut answers: impl BufRead,
     manner: &Manner,
     out: &mut impl Write,
 ) -> io::Result<Outcome> {
-    let mut answers = Answers { lines: answers };
     let mut program = Program::default();
     let mut outcome = Outcome {
         judged: 0,
@@ -173,7 +159,7 @@ pub fn judge(
         }
         outcome.judged += 1;
         let expected = program.told(&line);
-        let answer = answers.next()?;
+        let answer = next_line(&mut answers)?;
         if let Some(fault) = fault(&expected, answer.as_deref(), &mut answers, manner.search)? {
             outcome.wrong += 1;
             if outcome.wrong <= manner.shown {
@@ -186,7 +172,7 @@ pub fn judge(
             }
         }
     }
-    if let Some(answer) = answers.next()? {
+    if let Some(answer) = next_line(&mut answers)? {
         outcome.wrong += 1;
         writeln!(out, "after the last command: {}", readable(&answer))?;
     }
@@ -199,10 +185,10 @@ pub fn judge(
 }
 
 /// What should have been answered, where something else was or nothing.
-fn fault<R: BufRead>(
+fn fault(
     expected: &Expected,
     answer: Option<&[u8]>,
-    answers: &mut Answers<R>,
+    answers: &mut impl BufRead,
     search: bool,
 ) -> io::Result<Option<String>> {
     let Some(answer) = answer else {
@@ -211,6 +197,6 @@ fn fault<R: BufRead>(
     match expected {
         Expected::Line(line) => Ok((answer != line.as_bytes()).then(|| line.clone())),
         Expected::Verdict { first, second } => Ok(verdict_fault(answer, first, second, search)),
-        Expected::Report(_) => answers.report_fault(answer),
+        Expected::Report(_) => report_fault(answer, answers),
     }
 }

@@ -87,22 +87,41 @@ impl Program {
     fn run(&mut self, command: Command) -> Answer {
         let desk = &mut self.desk;
         match command {
-            Command::Fresh => desk.start_afresh().and_then(|()| done(&[])),
-            Command::Load { shape, numbers } => desk.load(shape, &numbers).and_then(|()| done(&[])),
+            Command::Fresh => accepted(desk.start_afresh()),
+            Command::Load { shape, numbers } => accepted(desk.load(shape, &numbers)),
             Command::Place {
                 place,
                 shape,
                 turn,
                 offset,
-            } => desk
-                .place(place, shape, turn, offset)
-                .and_then(|()| done(&[])),
+            } => accepted(desk.place(place, shape, turn, offset)),
             Command::Move {
                 place,
                 turn,
                 offset,
             } => done(&[desk.shift(place, turn, offset)?]),
-            Command::Remove { place } => desk.remove(place).and_then(|()| done(&[])),
+            Command::Remove { place } => accepted(desk.remove(place)),
+            Command::Pair { first, second } => {
+                let (first, second) = desk.pair(first, second)?;
+                Ok(Expected::Verdict { first, second })
+            }
+            Command::Lists { first, second } => lists(&first, &second),
+            Command::Contacts => listed(&desk.contacts(self.room)?),
+            Command::Rows => listed(&desk.rows()?),
+            Command::Tallies => done(&desk.tallies()?),
+            Command::Marks => done(&desk.marks()?),
+            Command::Report => Ok(Expected::Report(desk.contacts(ROOM_CELLS)?)),
+            Command::Length(text) => done(&[lengths::steps(&text)?]),
+            Command::Scan(patterns) => done(&three_steps(patterns)?),
+            Command::Show(steps) => Ok(Expected::Line(format!("0 {:08x}", shown(steps)?))),
+            Command::Blank(blank, sizes) => {
+                counted(blank.numbers(), &blank.written(sizes, self.room)?)
+            }
+            Command::Line {
+                k,
+                translated,
+                english,
+            } => menu_line(k, &translated, &english),
             Command::Spoil { part, cell, value } => {
                 desk.put(part, cell, value);
                 done(&[])
@@ -115,52 +134,27 @@ impl Program {
                 self.room = cells;
                 done(&[])
             }
-            question => self.ask(question),
         }
     }
+}
 
-    /// The commands that change nothing.
-    fn ask(&self, question: Command) -> Answer {
-        let desk = &self.desk;
-        match question {
-            Command::Pair { first, second } => {
-                let (first, second) = desk.pair(first, second)?;
-                Ok(Expected::Verdict { first, second })
-            }
-            Command::Lists { first, second } => {
-                lists_refusal(&first, &second)?;
-                Ok(Expected::Verdict {
-                    first: points(&first),
-                    second: points(&second),
-                })
-            }
-            Command::Contacts => listed(&desk.contacts(self.room)?),
-            Command::Rows => listed(&desk.rows()?),
-            Command::Tallies => done(&desk.tallies()?),
-            Command::Marks => done(&desk.marks()?),
-            Command::Report => {
-                let mut rows = desk.rows()?;
-                rows.retain(|&(_, _, verdict)| verdict >= 2);
-                Ok(Expected::Report(rows))
-            }
-            Command::Length(text) => done(&[lengths::steps(&text)?]),
-            Command::Scan(patterns) => done(&three_steps(patterns)?),
-            Command::Show(steps) => Ok(Expected::Line(format!("0 {:08x}", shown(steps)?))),
-            Command::Blank(blank, sizes) => {
-                counted(blank.numbers(), &blank.written(sizes, self.room)?)
-            }
-            Command::Line {
-                k,
-                translated,
-                english,
-            } => {
-                let part = menus::line(k, &translated, &english);
-                let line = format!("0 {}:{}", part.text, hex(part.bytes));
-                Ok(Expected::Line(line))
-            }
-            _ => Ok(Expected::Line(String::from("?"))),
-        }
-    }
+/// `0` alone, or the refusal.
+fn accepted(result: Result<(), Number>) -> Answer {
+    result.and_then(|()| done(&[]))
+}
+
+fn lists(first: &[Number], second: &[Number]) -> Answer {
+    lists_refusal(first, second)?;
+    Ok(Expected::Verdict {
+        first: points(first),
+        second: points(second),
+    })
+}
+
+fn menu_line(k: usize, translated: &[u8], english: &[u8]) -> Answer {
+    let part = menus::line(k, translated, english);
+    let line = format!("0 {}:{}", part.text, hex(part.bytes));
+    Ok(Expected::Line(line))
 }
 
 /// A whole answer to the verdict of two lists, its witnesses found by search.

@@ -7,7 +7,6 @@ use crate::lengths::digits;
 use crate::point::Number;
 
 pub const LONGEST_LINE: usize = 16_384;
-pub const LENT_CELLS: usize = 400;
 pub const ROOM_CELLS: usize = 8_192;
 
 #[derive(Debug, PartialEq, Eq)]
@@ -118,7 +117,7 @@ fn numbered(name: &[u8], numbers: &[Number]) -> Option<Command> {
         (b"remove", &[place]) => Command::Remove { place },
         (b"pair", &[first, second]) => Command::Pair { first, second },
         (b"show", &[steps]) => Command::Show(steps),
-        (b"lend", &[cells]) => Command::Lend(up_to(LENT_CELLS, cells)?),
+        (b"lend", &[cells]) => Command::Lend(up_to(Part::Marks.cells(), cells)?),
         (b"room", &[cells]) => Command::Room(up_to(ROOM_CELLS, cells)?),
         _ => return None,
     })

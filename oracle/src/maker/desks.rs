@@ -16,12 +16,13 @@ struct Layout {
 
 fn layout(dice: &mut Dice) -> Layout {
     let (reach, unit, spread) = match dice.below(10) {
-        0 => (1, 1, 2),
-        1..=4 => (3, 1, 4),
-        5 | 6 => (64, 32, 4),
-        7 => (20, 1, 30),
-        8 => (4_096, 2_048, 6),
-        _ => (65_536, 32_768, 2),
+        0 => (1, 1, 1),
+        1 | 2 => (2, 1, 1),
+        3 | 4 => (3, 1, 2),
+        5 | 6 => (64, 32, 2),
+        7 => (20, 1, 10),
+        8 => (4_096, 2_048, 2),
+        _ => (65_536, 32_768, 1),
     };
     let most_places = dice.pick(&[2, 3, 4, 5, 6, 8, 8, 12, 16, 24]);
     Layout {
@@ -119,7 +120,8 @@ fn with_pieces(script: &mut Script, dice: &mut Dice, layout: &Layout, taken: &[u
         }
         14..=19 => nudge(script, dice, piece as usize),
         20..=22 => script.tell("remove", &[piece]),
-        23..=31 => script.tell("pair", &[piece, dice.pick(taken) as i64]),
+        23..=26 => script.tell("pair", &[piece, dice.pick(taken) as i64]),
+        27..=31 => near_pair(script, dice),
         32..=34 => script.say("contacts"),
         35 => script.say("tallies"),
         36 => script.say("rows"),
@@ -128,6 +130,19 @@ fn with_pieces(script: &mut Script, dice: &mut Dice, layout: &Layout, taken: &[u
         39 => load(script, dice, layout),
         _ => place(script, dice, layout),
     }
+}
+
+/// A pair whose boxes are not apart, in either order, where there is one.
+fn near_pair(script: &mut Script, dice: &mut Dice) {
+    let mut rows = script.desk().rows().unwrap_or_default();
+    rows.retain(|&(_, _, row)| row != 0);
+    if rows.is_empty() {
+        return;
+    }
+    let (low, high, _) = dice.pick(&rows);
+    let mut pair = [low as i64, high as i64];
+    dice.shuffle(&mut pair);
+    script.tell("pair", &pair);
 }
 
 /// The same pose but for one step, or for nothing at all.
@@ -159,7 +174,7 @@ fn full_desk(script: &mut Script, dice: &mut Dice) {
     let layout = Layout {
         reach: 4,
         unit: 2,
-        spread: 5,
+        spread: 3,
         most_places: PLACES,
     };
     let mut places: Vec<i64> = (0..PLACES as i64).collect();

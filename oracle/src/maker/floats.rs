@@ -16,6 +16,8 @@ pub fn stretch(script: &mut Script, dice: &mut Dice) {
     }
 }
 
+const ONE_STEP: u32 = 0x3c80_0000;
+
 /// The pattern of a whole number of steps within what can be shown.
 fn whole(dice: &mut Dice, reach: i64) -> u32 {
     let steps = dice.between(-reach, reach);
@@ -28,7 +30,7 @@ fn good(dice: &mut Dice) -> u32 {
         0 => dice.pick(&[0x4480_0000, 0xc480_0000, 0x0000_0000, 0x8000_0000]),
         1 => whole(dice, 65_536),
         2 => whole(dice, 64),
-        3 => 64 * 0x0002_0000 + 0x3c00_0000,
+        3 => ONE_STEP,
         _ => whole(dice, 4_096) & 0x7fff_ffff,
     }
 }
@@ -48,7 +50,7 @@ fn any(dice: &mut Dice) -> u32 {
         8 => noise % 0x0280_0000 + 0x4400_0000,
         9 => noise,
         10 => (noise & 0x807f_0000) | 0x4400_0000,
-        _ => 0x3c80_0000 | (noise & 0x8000_0000),
+        _ => ONE_STEP | (noise & 0x8000_0000),
     }
 }
 

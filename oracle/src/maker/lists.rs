@@ -102,34 +102,20 @@ fn cross(a: Corner, b: Corner) -> Corner {
 /// A direction in which the first list may be highest at a corner, an edge or a face.
 fn towards(dice: &mut Dice, first: &[Corner], second: &[Corner]) -> Corner {
     let edge = |dice: &mut Dice, list: &[Corner]| minus(dice.pick(list), dice.pick(list));
-    let d = match dice.below(4) {
+    match dice.below(4) {
         0 => cross(edge(dice, first), edge(dice, first)),
         1 => cross(edge(dice, second), edge(dice, second)),
         2 => cross(edge(dice, first), edge(dice, second)),
         _ => cloud(dice, 9, 1)[0],
-    };
-    // The size does not matter; smaller numbers keep the products small.
-    let greatest = d.map(i64::abs).into_iter().max().unwrap_or(0).max(1);
-    if greatest > 1 << 40 {
-        [1, 1, 1]
-    } else {
-        d
     }
 }
 
-/// The mean of the corners that lie highest along d; the lists have even coordinates where they can.
+/// Half way between two corners that lie highest along d; even coordinates make it whole.
 fn highest(list: &[Corner], d: Corner) -> Corner {
     let top = list.iter().map(|&a| dot(d, a)).max().unwrap_or(0);
     let there: Vec<Corner> = list.iter().copied().filter(|&a| dot(d, a) == top).collect();
-    let last = there[there.len() - 1];
-    [0, 1, 2].map(|k: usize| {
-        let sum = there[0][k] + last[k];
-        if sum % 2 == 0 {
-            sum / 2
-        } else {
-            last[k]
-        }
-    })
+    let last = there.len() - 1;
+    [0, 1, 2].map(|k: usize| (there[0][k] + there[last][k]) / 2)
 }
 
 /// Two lists, the second moved so that both are level in some direction, then perhaps nudged.

@@ -56,7 +56,7 @@ impl Kind {
 }
 
 /// How often `all` turns to each kind.
-const SHARES: [Kind; 12] = [
+const SHARES: [Kind; 14] = [
     Kind::Desk,
     Kind::Desk,
     Kind::Desk,
@@ -64,6 +64,8 @@ const SHARES: [Kind; 12] = [
     Kind::Lists,
     Kind::Refusals,
     Kind::Refusals,
+    Kind::Spoils,
+    Kind::Spoils,
     Kind::Spoils,
     Kind::Floats,
     Kind::Text,

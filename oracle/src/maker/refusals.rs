@@ -38,8 +38,20 @@ pub fn begin(script: &mut Script, dice: &mut Dice) {
     );
 }
 
-pub fn command(script: &mut Script, dice: &mut Dice) {
+fn command(script: &mut Script, dice: &mut Dice) {
     match dice.below(20) {
+        0 => floats::blank(script, dice),
+        1 => texts::one_length(script, dice),
+        2 => floats::scan(script, dice),
+        3 => floats::show(script, dice),
+        4 => lists::refused(script, dice),
+        _ => desk_command(script, dice),
+    }
+}
+
+/// A command or question of the desk, good or bad.
+pub fn desk_command(script: &mut Script, dice: &mut Dice) {
+    match dice.below(15) {
         0..=3 => load(script, dice),
         4..=7 => place(script, dice),
         8..=10 => shift(script, dice),
@@ -48,12 +60,7 @@ pub fn command(script: &mut Script, dice: &mut Dice) {
             script.tell("remove", &[place]);
         }
         12 | 13 => pair(script, dice),
-        14 => contacts(script, dice),
-        15 => floats::blank(script, dice),
-        16 => texts::one_length(script, dice),
-        17 => floats::scan(script, dice),
-        18 => floats::show(script, dice),
-        _ => lists::refused(script, dice),
+        _ => contacts(script, dice),
     }
 }
 

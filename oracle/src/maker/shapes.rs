@@ -14,18 +14,19 @@ pub fn cloud(dice: &mut Dice, reach: i64, count: usize) -> Vec<Corner> {
     (0..count).map(|_| cloud_corner(dice, reach)).collect()
 }
 
-/// Corners at multiples of two whole vectors from a base: a flat set, or a line, or a point.
+/// Corners at small multiples of two whole vectors from a base: a flat set, a line or a point.
 fn flat(dice: &mut Dice, reach: i64, count: usize) -> Vec<Corner> {
-    let small = (reach / 3).max(1);
-    let base = cloud_corner(dice, reach - 2 * (small / 2).max(0));
-    let along = cloud_corner(dice, (small / 2).max(1));
+    let short = (reach / 4).max(1);
+    let base = cloud_corner(dice, (reach - 2 * short).max(0));
+    let along = cloud_corner(dice, short);
     let across = match dice.below(3) {
         0 => along,
         1 => dice.pick(&[[1, 0, 0], [0, 1, 0], [0, 0, 1]]),
-        _ => cloud_corner(dice, (small / 2).max(1)),
+        _ => cloud_corner(dice, short),
     };
     let corner = |dice: &mut Dice| {
         let (s, t) = (dice.between(-1, 1), dice.between(-1, 1));
+        // Where the reach is 1 the sum can leave it; then the set may not be flat, which is no harm.
         [0, 1, 2].map(|k: usize| (base[k] + s * along[k] + t * across[k]).clamp(-reach, reach))
     };
     (0..count).map(|_| corner(dice)).collect()

@@ -3,9 +3,9 @@
 
 use super::desks;
 use super::dice::Dice;
-use super::refusals::{begin, command};
+use super::refusals::{begin, desk_command};
 use super::script::Script;
-use crate::desk::{Desk, Part, AXIS_MARKS, CORNERS, MARKS, PLACES, SHAPES};
+use crate::desk::{Desk, Part, AXIS_MARKS, CORNERS, MARKS, NO_ROW, PLACES, SHAPES};
 use crate::point::Number;
 
 /// What brings a spoiled desk back.
@@ -65,11 +65,13 @@ pub fn some_shape(script: &Script, dice: &mut Dice) -> usize {
 
 pub fn stretch(script: &mut Script, dice: &mut Dice) {
     begin(script, dice);
-    for _ in 0..12 {
-        match dice.below(10) {
-            0 => lying_row(script, dice),
-            1 => placed_by_hand(script, dice),
-            2 => no_such_cell(script, dice),
+    for _ in 0..20 {
+        match dice.below(40) {
+            0..=3 => lying_row(script, dice),
+            4..=6 => stray_row(script, dice),
+            7 => placed_by_hand(script, dice),
+            8 => no_such_cell(script, dice),
+            9 => cleared(script, dice),
             _ => one_cell(script, dice),
         }
     }
@@ -77,22 +79,17 @@ pub fn stretch(script: &mut Script, dice: &mut Dice) {
 
 /// Spoils one cell, tries some commands, and mostly puts the cell right again.
 fn one_cell(script: &mut Script, dice: &mut Dice) {
-    let undo = match dice.below(14) {
-        0 => counts(script, dice),
-        1 => corners(script, dice),
-        2 | 3 => poses(script, dice),
-        4 | 5 => offsets(script, dice),
-        6 | 7 => rows(script, dice),
-        8 => book(script, dice),
-        9..=12 => marks(script, dice),
+    let undo = match dice.below(24) {
+        0 | 1 => counts(script, dice),
+        2..=4 => corners(script, dice),
+        5..=8 => poses(script, dice),
+        9..=11 => offsets(script, dice),
+        12..=15 => rows(script, dice),
+        16 | 17 => book(script, dice),
+        18..=21 => marks(script, dice),
         _ => Undo::lend(script, dice),
     };
-    if dice.once_in(3) {
-        desks::questions(script, dice);
-    }
-    for _ in 0..1 + dice.below(3) {
-        command(script, dice);
-    }
+    tried(script, dice);
     if script.desk().in_order() && dice.once_in(2) {
         return;
     }
@@ -100,6 +97,31 @@ fn one_cell(script: &mut Script, dice: &mut Dice) {
     if !script.desk().in_order() {
         begin(script, dice);
     }
+}
+
+/// Asks and commands a desk that may be out of order; a fresh start only where that is refused.
+fn tried(script: &mut Script, dice: &mut Dice) {
+    let questions = ["contacts", "tallies", "contacts", "rows", "marks", "report"];
+    script.say(dice.pick(&questions));
+    for _ in 0..1 + dice.below(2) {
+        desk_command(script, dice);
+    }
+    if script.desk().lent != MARKS && dice.once_in(2) {
+        script.say("fresh");
+    }
+}
+
+/// A fresh start mends whatever is spoiled but the length of the marks.
+fn cleared(script: &mut Script, dice: &mut Dice) {
+    Undo::disorder(script, dice);
+    rows(script, dice);
+    book(script, dice);
+    marks(script, dice);
+    script.say("contacts");
+    script.say("fresh");
+    script.say("marks");
+    script.say("rows");
+    begin(script, dice);
 }
 
 /// A count; corners that come to mean something by it are written first.
@@ -143,9 +165,13 @@ fn some_place(script: &Script, dice: &mut Dice) -> usize {
 }
 
 fn poses(script: &mut Script, dice: &mut Dice) -> Undo {
-    let cell = 2 * some_place(script, dice) + dice.below(2);
-    let value = dice.pick(&[0, 1, 2, 8, 23, 24, 32, 33, 255]);
-    Undo::spoil(script, Part::Poses, cell, value)
+    let place = some_place(script, dice);
+    if dice.once_in(2) {
+        let turn = dice.pick(&[24, 24, 25, 255, 0, 1, 23]);
+        return Undo::spoil(script, Part::Poses, 2 * place + 1, turn);
+    }
+    let shape = dice.pick(&[0, 1, 2, 8, 32, 33, 255]);
+    Undo::spoil(script, Part::Poses, 2 * place, shape)
 }
 
 fn offsets(script: &mut Script, dice: &mut Dice) -> Undo {
@@ -209,13 +235,39 @@ fn lying_row(script: &mut Script, dice: &mut Dice) {
     script.tell("pair", &[low as i64, high as i64]);
     desks::questions(script, dice);
     for _ in 0..3 {
-        command(script, dice);
+        desk_command(script, dice);
     }
     if dice.once_in(2) {
         let turn = dice.between(0, 23);
         script.tell("move", &[high as i64, turn, 0, 0, 1]);
     }
     script.say("rows");
+}
+
+/// A pair without a verdict, or a verdict where there is no pair, with tallies that go along.
+fn stray_row(script: &mut Script, dice: &mut Dice) {
+    let rows = script.desk().rows().unwrap_or_default();
+    if rows.is_empty() {
+        return;
+    }
+    let (low, high, old) = dice.pick(&rows);
+    let (cell, tally, change) = if dice.once_in(2) {
+        let (p, q) = (some_taken(script, dice), dice.below(PLACES));
+        let cell = p.max(q) * PLACES + p.min(q);
+        let verdict = dice.pick(&[0, 1, 2, 3]);
+        script.spoil(Part::Rows, cell, verdict);
+        (cell, verdict, 1)
+    } else {
+        let cell = low * PLACES + high;
+        script.spoil(Part::Rows, cell, dice.pick(&[4, 5, 254, 255]));
+        (cell, old, -1)
+    };
+    let counted = script.desk().cell(Part::Book, tally as usize);
+    script.spoil(Part::Book, tally as usize, counted + change);
+    tried(script, dice);
+    script.spoil(Part::Book, tally as usize, counted);
+    script.spoil(Part::Rows, cell, if change < 0 { old } else { NO_ROW });
+    script.say("tallies");
 }
 
 /// A piece placed cell by cell: in order only once the last cell is written.

@@ -183,7 +183,7 @@ pub fn lines(script: &mut Script, dice: &mut Dice) {
             _ => script.say("tallies"),
         }
     }
-    if dice.once_in(12) {
+    if dice.once_in(4) {
         long_line(script, dice);
     }
 }
@@ -199,7 +199,7 @@ fn cut_up(script: &mut Script, dice: &mut Dice) {
         "lists 3 0 0 0 3 1 1 1",
         "line 1 610a62 630a64",
         "blank box 3f800000 3f800000 3f800000",
-        "spoil counts 9 0",
+        "spoil book 9 0",
     ];
     let mut line = dice.pick(&good).as_bytes().to_vec();
     let k = dice.below(line.len());
@@ -210,21 +210,13 @@ fn cut_up(script: &mut Script, dice: &mut Dice) {
         1 => line.insert(k, line[k]),
         _ => line[k] = binary(dice, 1)[0],
     }
-    // A byte that says how much is lent, or starts a comment, changes more than one answer.
-    if line.first() != Some(&b'#') {
-        script.say_bytes(&line);
-    }
+    script.say_bytes(&line);
 }
 
 /// Lines at the greatest length, one past it, and with thousands of numbers.
 fn long_line(script: &mut Script, dice: &mut Dice) {
-    let mut line = match dice.below(4) {
-        0 => b"length ".to_vec(),
-        1 => b"load 1 ".to_vec(),
-        2 => b"lists 3 ".to_vec(),
-        _ => b"line 0 - ".to_vec(),
-    };
-    let spaced = line.starts_with(b"l") && line[1] != b'e' && line[2] != b'n';
+    let (start, spaced) = dice.pick(&[("length ", false), ("line 0 - ", false), ("load 1 ", true)]);
+    let mut line = start.as_bytes().to_vec();
     let length = LONGEST_LINE + dice.below(3) - 1;
     while line.len() < length {
         let gap = spaced && line[line.len() - 1] != b' ' && line.len() + 1 < length;
