@@ -37,12 +37,13 @@ fn joined<'a>(answers: impl Iterator<Item = &'a String>) -> String {
 #[test]
 fn the_judge_agrees_with_its_own_answers() {
     for (seed, kind) in (1..).zip(Kind::ALL) {
-        let script = make(seed, 1_000, kind);
+        let count = if kind == Kind::Full { 60 } else { 1_000 };
+        let script = make(seed, count, kind);
         let answers = answered(&script);
         let text = joined(answers.iter().map(|(_, right)| right));
         for search in [false, true] {
             let right = Outcome {
-                judged: 1_000,
+                judged: count,
                 wrong: 0,
             };
             assert_eq!(judged(&script, &text, search), right, "{}", kind.word());
@@ -79,7 +80,7 @@ fn lists_of_all_three_verdicts_are_common() {
 
 #[test]
 fn a_changed_line_is_found() {
-    let script = make(4, 150, Kind::All);
+    let script = make(4, 120, Kind::All);
     let answers = answered(&script);
     for k in 0..answers.len() {
         if matches!(answers[k].0, Expected::Report(_)) {

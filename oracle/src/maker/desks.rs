@@ -165,7 +165,19 @@ pub fn questions(script: &mut Script, dice: &mut Dice) {
     }
 }
 
-/// All 64 places taken, room for the whole listing or not, and then some moves.
+/// Takes all 64 places, in any order, with the shapes that are loaded.
+fn fill(script: &mut Script, dice: &mut Dice, layout: &Layout) {
+    let mut places: Vec<i64> = (0..PLACES as i64).collect();
+    dice.shuffle(&mut places);
+    let shapes = loaded(script);
+    for place in places {
+        let [x, y, z] = offset(dice, layout);
+        let turn = dice.between(0, 23);
+        script.tell("place", &[place, dice.pick(&shapes), turn, x, y, z]);
+    }
+}
+
+/// All 64 places taken by boxes, room for the whole listing or not, and then some moves.
 fn full_desk(script: &mut Script, dice: &mut Dice) {
     script.start_afresh();
     let mut told = vec![0];
@@ -177,12 +189,7 @@ fn full_desk(script: &mut Script, dice: &mut Dice) {
         spread: 3,
         most_places: PLACES,
     };
-    let mut places: Vec<i64> = (0..PLACES as i64).collect();
-    dice.shuffle(&mut places);
-    for place in places {
-        let [x, y, z] = offset(dice, &layout);
-        script.tell("place", &[place, 0, dice.between(0, 23), x, y, z]);
-    }
+    fill(script, dice, &layout);
     for question in [
         "contacts",
         "rows",
@@ -199,4 +206,25 @@ fn full_desk(script: &mut Script, dice: &mut Dice) {
     }
     script.say("tallies");
     script.say("marks");
+}
+
+/// The largest desk there is: 32 shapes of 32 corners loaded, 64 places taken, then a run on it.
+pub fn full_hulls(script: &mut Script, dice: &mut Dice) {
+    script.start_afresh();
+    let layout = Layout {
+        reach: 1_000,
+        unit: 100,
+        spread: 30,
+        most_places: PLACES,
+    };
+    for shape in 0..SHAPES as i64 {
+        let mut told = vec![shape];
+        told.extend(numbers(&ball(dice, layout.reach)));
+        script.tell("load", &told);
+    }
+    fill(script, dice, &layout);
+    for _ in 0..100 {
+        one_command(script, dice, &layout);
+    }
+    questions(script, dice);
 }

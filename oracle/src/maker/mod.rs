@@ -25,10 +25,11 @@ pub enum Kind {
     Text,
     Menus,
     Lines,
+    Full,
 }
 
 impl Kind {
-    pub const ALL: [Kind; 9] = [
+    pub const ALL: [Kind; 10] = [
         Kind::All,
         Kind::Lists,
         Kind::Desk,
@@ -38,6 +39,7 @@ impl Kind {
         Kind::Text,
         Kind::Menus,
         Kind::Lines,
+        Kind::Full,
     ];
 
     pub fn word(self) -> &'static str {
@@ -51,6 +53,7 @@ impl Kind {
             Kind::Text => "text",
             Kind::Menus => "menus",
             Kind::Lines => "lines",
+            Kind::Full => "full",
         }
     }
 }
@@ -101,5 +104,6 @@ fn write_stretch(kind: Kind, script: &mut Script, dice: &mut Dice) {
         Kind::Text => texts::lengths(script, dice),
         Kind::Menus => texts::menus(script, dice),
         Kind::Lines => texts::lines(script, dice),
+        Kind::Full => desks::full_hulls(script, dice),
     }
 }

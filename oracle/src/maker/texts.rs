@@ -183,8 +183,8 @@ pub fn lines(script: &mut Script, dice: &mut Dice) {
             _ => script.say("tallies"),
         }
     }
-    if dice.once_in(4) {
-        long_line(script, dice);
+    if dice.once_in(8) {
+        long_lines(script, dice);
     }
 }
 
@@ -213,16 +213,18 @@ fn cut_up(script: &mut Script, dice: &mut Dice) {
     script.say_bytes(&line);
 }
 
-/// Lines at the greatest length, one past it, and with thousands of numbers.
-fn long_line(script: &mut Script, dice: &mut Dice) {
-    let (start, spaced) = dice.pick(&[("length ", false), ("line 0 - ", false), ("load 1 ", true)]);
-    let mut line = start.as_bytes().to_vec();
-    let length = LONGEST_LINE + dice.below(3) - 1;
-    while line.len() < length {
-        let gap = spaced && line[line.len() - 1] != b' ' && line.len() + 1 < length;
-        line.push(if gap { b' ' } else { b'1' });
+/// Lines one byte under the greatest length, at it, and one past it, some with thousands of numbers.
+fn long_lines(script: &mut Script, dice: &mut Dice) {
+    let (start, spaced) =
+        dice.pick(&[("length ", false), ("line 10 - ", false), ("load 1 ", true)]);
+    for length in LONGEST_LINE - 1..=LONGEST_LINE + 1 {
+        let mut line = start.as_bytes().to_vec();
+        while line.len() < length {
+            let gap = spaced && line[line.len() - 1] != b' ' && line.len() + 1 < length;
+            line.push(if gap { b' ' } else { b'1' });
+        }
+        script.say_bytes(&line);
     }
-    script.say_bytes(&line);
     script.say("tallies");
 }
 
