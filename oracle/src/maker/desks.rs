@@ -3,14 +3,15 @@
 
 use super::dice::Dice;
 use super::script::Script;
-use super::shapes::{any, ball, block, numbers, Corner};
-use crate::desk::{PLACES, SHAPES};
+use super::shapes::{any, ball, block, numbers};
+use crate::desk::{Part, PLACES, SHAPES};
+use crate::point::{Number, Point};
 
 /// How a desk is laid out: shapes within reach, offsets at multiples of a unit.
 struct Layout {
-    reach: i64,
-    unit: i64,
-    spread: i64,
+    reach: Number,
+    unit: Number,
+    spread: Number,
     most_places: usize,
 }
 
@@ -33,8 +34,8 @@ fn layout(dice: &mut Dice) -> Layout {
     }
 }
 
-fn offset(dice: &mut Dice, layout: &Layout) -> [i64; 3] {
-    [0; 3].map(|_: i64| {
+fn offset(dice: &mut Dice, layout: &Layout) -> [Number; 3] {
+    [0; 3].map(|_: Number| {
         let whole = layout.unit * dice.between(-layout.spread, layout.spread);
         let nudged = if dice.once_in(6) {
             whole + dice.pick(&[-1, 1])
@@ -45,7 +46,7 @@ fn offset(dice: &mut Dice, layout: &Layout) -> [i64; 3] {
     })
 }
 
-fn shape(dice: &mut Dice, layout: &Layout) -> Vec<Corner> {
+fn shape(dice: &mut Dice, layout: &Layout) -> Vec<Point> {
     match dice.below(12) {
         0 => block([0; 3], [layout.reach; 3]),
         1 => vec![[0; 3]],
@@ -71,17 +72,17 @@ pub fn stretch(script: &mut Script, dice: &mut Dice) {
 }
 
 fn load(script: &mut Script, dice: &mut Dice, layout: &Layout) {
-    let mut told = vec![dice.below(SHAPES) as i64];
+    let mut told = vec![dice.below(SHAPES) as Number];
     told.extend(numbers(&shape(dice, layout)));
     script.tell("load", &told);
 }
 
-fn loaded(script: &Script) -> Vec<i64> {
+fn loaded(script: &Script) -> Vec<Number> {
     let shapes = (0..SHAPES).filter(|&shape| script.desk().loaded(shape));
-    shapes.map(|shape| shape as i64).collect()
+    shapes.map(|shape| shape as Number).collect()
 }
 
-fn turn(dice: &mut Dice) -> i64 {
+fn turn(dice: &mut Dice) -> Number {
     if dice.once_in(2) {
         0
     } else {
@@ -91,7 +92,7 @@ fn turn(dice: &mut Dice) -> i64 {
 
 fn place(script: &mut Script, dice: &mut Dice, layout: &Layout) {
     let places = if layout.most_places < 8 { 8 } else { PLACES };
-    let place = dice.below(places) as i64;
+    let place = dice.below(places) as Number;
     let shape = dice.pick(&loaded(script));
     let turn = turn(dice);
     let [x, y, z] = offset(dice, layout);
@@ -111,7 +112,7 @@ fn one_command(script: &mut Script, dice: &mut Dice, layout: &Layout) {
 
 /// A command on a desk that holds at least two pieces.
 fn with_pieces(script: &mut Script, dice: &mut Dice, layout: &Layout, taken: &[usize]) {
-    let piece = dice.pick(taken) as i64;
+    let piece = dice.pick(taken) as Number;
     match dice.below(40) {
         0..=13 => {
             let turn = turn(dice);
@@ -120,7 +121,7 @@ fn with_pieces(script: &mut Script, dice: &mut Dice, layout: &Layout, taken: &[u
         }
         14..=19 => nudge(script, dice, piece as usize),
         20..=22 => script.tell("remove", &[piece]),
-        23..=26 => script.tell("pair", &[piece, dice.pick(taken) as i64]),
+        23..=26 => script.tell("pair", &[piece, dice.pick(taken) as Number]),
         27..=31 => near_pair(script, dice),
         32..=34 => script.say("contacts"),
         35 => script.say("tallies"),
@@ -140,7 +141,7 @@ fn near_pair(script: &mut Script, dice: &mut Dice) {
         return;
     }
     let (low, high, _) = dice.pick(&rows);
-    let mut pair = [low as i64, high as i64];
+    let mut pair = [low as Number, high as Number];
     dice.shuffle(&mut pair);
     script.tell("pair", &pair);
 }
@@ -148,12 +149,12 @@ fn near_pair(script: &mut Script, dice: &mut Dice) {
 /// The same pose but for one step, or for nothing at all.
 fn nudge(script: &mut Script, dice: &mut Dice, place: usize) {
     let desk = script.desk();
-    let turn = desk.cell(crate::desk::Part::Poses, 2 * place + 1) as i64;
-    let mut offset = desk.offset(place).map(|k| k as i64);
+    let turn = desk.cell(Part::Poses, 2 * place + 1);
+    let mut offset = desk.offset(place);
     let axis = dice.below(3);
     offset[axis] = (offset[axis] + dice.between(-1, 1)).clamp(-65_536, 65_536);
     let [x, y, z] = offset;
-    script.tell("move", &[place as i64, turn, x, y, z]);
+    script.tell("move", &[place as Number, turn, x, y, z]);
 }
 
 pub fn questions(script: &mut Script, dice: &mut Dice) {
@@ -167,7 +168,7 @@ pub fn questions(script: &mut Script, dice: &mut Dice) {
 
 /// Takes all 64 places, in any order, with the shapes that are loaded.
 fn fill(script: &mut Script, dice: &mut Dice, layout: &Layout) {
-    let mut places: Vec<i64> = (0..PLACES as i64).collect();
+    let mut places: Vec<Number> = (0..PLACES as Number).collect();
     dice.shuffle(&mut places);
     let shapes = loaded(script);
     for place in places {
@@ -202,7 +203,7 @@ fn full_desk(script: &mut Script, dice: &mut Dice) {
     }
     for _ in 0..20 {
         let [x, y, z] = offset(dice, &layout);
-        script.tell("move", &[dice.below(PLACES) as i64, 0, x, y, z]);
+        script.tell("move", &[dice.below(PLACES) as Number, 0, x, y, z]);
     }
     script.say("tallies");
     script.say("marks");
@@ -217,7 +218,7 @@ pub fn full_hulls(script: &mut Script, dice: &mut Dice) {
         spread: 30,
         most_places: PLACES,
     };
-    for shape in 0..SHAPES as i64 {
+    for shape in 0..SHAPES as Number {
         let mut told = vec![shape];
         told.extend(numbers(&ball(dice, layout.reach)));
         script.tell("load", &told);

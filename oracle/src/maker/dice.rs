@@ -1,6 +1,8 @@
 //! The maker's own source of chance: a 64-bit counter, mixed (splitmix64). No clock, no system.
 //! The same seed always gives the same throws.
 
+use crate::point::Number;
+
 pub struct Dice {
     state: u64,
 }
@@ -27,8 +29,8 @@ impl Dice {
     }
 
     /// One of `low` to `high`.
-    pub fn between(&mut self, low: i64, high: i64) -> i64 {
-        low + self.below((high - low + 1) as usize) as i64
+    pub fn between(&mut self, low: Number, high: Number) -> Number {
+        low + self.below((high - low + 1) as usize) as Number
     }
 
     /// True once in `count` throws.
@@ -47,8 +49,8 @@ impl Dice {
     }
 
     /// A number that some reader may stumble over.
-    pub fn edge_number(&mut self) -> i64 {
-        let edges: [i64; 12] = [
+    pub fn edge_number(&mut self) -> Number {
+        let edges: [Number; 12] = [
             -1,
             64,
             255,
@@ -57,8 +59,8 @@ impl Dice {
             65_537,
             131_073,
             -65_537,
-            i64::from(i32::MAX),
-            i64::from(i32::MIN),
+            Number::from(i32::MAX),
+            Number::from(i32::MIN),
             1 << 24,
             -131_073,
         ];

@@ -5,6 +5,7 @@ use super::dice::Dice;
 use super::script::Script;
 use crate::blanks::Blank;
 use crate::floats::shown;
+use crate::point::Number;
 
 pub fn stretch(script: &mut Script, dice: &mut Dice) {
     for _ in 0..30 {
@@ -19,9 +20,9 @@ pub fn stretch(script: &mut Script, dice: &mut Dice) {
 const ONE_STEP: u32 = 0x3c80_0000;
 
 /// The pattern of a whole number of steps within what can be shown.
-fn whole(dice: &mut Dice, reach: i64) -> u32 {
+fn whole(dice: &mut Dice, reach: Number) -> u32 {
     let steps = dice.between(-reach, reach);
-    shown(steps.into()).unwrap_or_default()
+    shown(steps).unwrap_or_default()
 }
 
 /// A pattern that is a whole number of steps, mostly of a good size.
@@ -92,7 +93,7 @@ pub fn blank(script: &mut Script, dice: &mut Dice) {
     let words = hex(dice, patterns);
     let short = dice.once_in(3);
     if short {
-        let needed = blank.numbers() as i64;
+        let needed = blank.numbers() as Number;
         let room = dice.pick(&[0, needed - 1, needed, needed + 1]);
         script.tell("room", &[room]);
     }

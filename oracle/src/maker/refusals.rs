@@ -8,6 +8,7 @@ use super::script::Script;
 use super::spoils::{some_shape, some_taken, Undo};
 use super::texts;
 use crate::desk::{PLACES, SHAPES};
+use crate::point::Number;
 
 pub fn stretch(script: &mut Script, dice: &mut Dice) {
     begin(script, dice);
@@ -65,32 +66,32 @@ pub fn desk_command(script: &mut Script, dice: &mut Dice) {
 }
 
 /// A number that is good, or one past either end, or far off.
-fn near(dice: &mut Dice, count: usize) -> i64 {
+fn near(dice: &mut Dice, count: usize) -> Number {
     match dice.below(5) {
-        0 => dice.pick(&[-1, count as i64]),
+        0 => dice.pick(&[-1, count as Number]),
         1 => dice.edge_number(),
-        _ => dice.below(count) as i64,
+        _ => dice.below(count) as Number,
     }
 }
 
-fn shape_number(script: &Script, dice: &mut Dice) -> i64 {
+fn shape_number(script: &Script, dice: &mut Dice) -> Number {
     if dice.once_in(3) {
         near(dice, SHAPES)
     } else {
-        some_shape(script, dice) as i64
+        some_shape(script, dice) as Number
     }
 }
 
-fn place_number(script: &Script, dice: &mut Dice) -> i64 {
+fn place_number(script: &Script, dice: &mut Dice) -> Number {
     if dice.once_in(2) {
         near(dice, PLACES)
     } else {
-        some_taken(script, dice) as i64
+        some_taken(script, dice) as Number
     }
 }
 
-fn offset(dice: &mut Dice) -> [i64; 3] {
-    let mut offset = [0; 3].map(|_: i64| dice.between(-2, 2));
+fn offset(dice: &mut Dice) -> [Number; 3] {
+    let mut offset = [0; 3].map(|_: Number| dice.between(-2, 2));
     if dice.once_in(3) {
         let ends = [65_536, -65_536, 65_537, -65_537, 131_072];
         offset[dice.below(3)] = if dice.once_in(3) {
@@ -102,7 +103,7 @@ fn offset(dice: &mut Dice) -> [i64; 3] {
     offset
 }
 
-fn turn(dice: &mut Dice) -> i64 {
+fn turn(dice: &mut Dice) -> Number {
     if dice.once_in(3) {
         dice.pick(&[
             -1,
@@ -110,8 +111,8 @@ fn turn(dice: &mut Dice) -> i64 {
             25,
             255,
             256,
-            i64::from(i32::MIN),
-            i64::from(i32::MAX),
+            Number::from(i32::MIN),
+            Number::from(i32::MAX),
         ])
     } else {
         dice.between(0, 23)
@@ -166,7 +167,7 @@ fn pair(script: &mut Script, dice: &mut Dice) {
 /// Room for exactly the listing, for one cell less, or for none.
 fn contacts(script: &mut Script, dice: &mut Dice) {
     let rows = script.desk().contacts(usize::MAX).unwrap_or_default();
-    let needed = 3 * rows.len() as i64;
+    let needed = 3 * rows.len() as Number;
     let room = dice.pick(&[needed, (needed - 1).max(0), 0, needed / 2]);
     script.tell("room", &[room]);
     script.say("contacts");

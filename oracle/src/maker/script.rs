@@ -52,7 +52,7 @@ impl Script {
     }
 
     /// A word and numbers.
-    pub fn tell(&mut self, word: &str, numbers: &[i64]) {
+    pub fn tell(&mut self, word: &str, numbers: &[Number]) {
         let mut line = String::from(word);
         for number in numbers {
             line += &format!(" {number}");

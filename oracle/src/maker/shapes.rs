@@ -1,21 +1,20 @@
-//! Corner lists of every kind: points, segments, flat sets, boxes, clouds and full hulls.
+//! Point lists of every kind: points, segments, flat sets, boxes, clouds and full hulls.
 //! Coordinates stay within the reach asked for; small reaches make touching common.
 
 use super::dice::Dice;
+use crate::point::{Number, Point};
 
-pub type Corner = [i64; 3];
-
-fn cloud_corner(dice: &mut Dice, reach: i64) -> Corner {
-    [0; 3].map(|_: i64| dice.between(-reach, reach))
+fn cloud_corner(dice: &mut Dice, reach: Number) -> Point {
+    [0; 3].map(|_: Number| dice.between(-reach, reach))
 }
 
 /// `count` corners anywhere within reach.
-pub fn cloud(dice: &mut Dice, reach: i64, count: usize) -> Vec<Corner> {
+pub fn cloud(dice: &mut Dice, reach: Number, count: usize) -> Vec<Point> {
     (0..count).map(|_| cloud_corner(dice, reach)).collect()
 }
 
-/// Corners at small multiples of two whole vectors from a base: a flat set, a line or a point.
-fn flat(dice: &mut Dice, reach: i64, count: usize) -> Vec<Corner> {
+/// Points at small multiples of two whole vectors from a base: a flat set, a line or a point.
+fn flat(dice: &mut Dice, reach: Number, count: usize) -> Vec<Point> {
     let short = (reach / 4).max(1);
     let base = cloud_corner(dice, (reach - 2 * short).max(0));
     let along = cloud_corner(dice, short);
@@ -33,7 +32,7 @@ fn flat(dice: &mut Dice, reach: i64, count: usize) -> Vec<Corner> {
 }
 
 /// A box from one corner to another, z running fastest.
-pub fn block(low: Corner, high: Corner) -> Vec<Corner> {
+pub fn block(low: Point, high: Point) -> Vec<Point> {
     (0..8)
         .map(|k: usize| {
             let bit = |axis: usize| {
@@ -49,8 +48,8 @@ pub fn block(low: Corner, high: Corner) -> Vec<Corner> {
 }
 
 /// A box with one corner at the origin or around it.
-fn some_block(dice: &mut Dice, reach: i64) -> Vec<Corner> {
-    let high = [0; 3].map(|_: i64| dice.between(1, reach));
+fn some_block(dice: &mut Dice, reach: Number) -> Vec<Point> {
+    let high = [0; 3].map(|_: Number| dice.between(1, reach));
     let low = if dice.once_in(2) {
         [0; 3]
     } else {
@@ -60,11 +59,11 @@ fn some_block(dice: &mut Dice, reach: i64) -> Vec<Corner> {
 }
 
 /// 32 corners near a ball's surface, so that most of them are corners of the hull.
-pub fn ball(dice: &mut Dice, reach: i64) -> Vec<Corner> {
+pub fn ball(dice: &mut Dice, reach: Number) -> Vec<Point> {
     let mut corners = Vec::new();
     while corners.len() < 32 {
         let raw = cloud_corner(dice, 1000);
-        let size = raw.iter().map(|k| k * k).sum::<i64>().isqrt();
+        let size = raw.iter().map(|k| k * k).sum::<Number>().isqrt();
         if size > 100 {
             corners.push(raw.map(|k| k * reach / size));
         }
@@ -73,7 +72,7 @@ pub fn ball(dice: &mut Dice, reach: i64) -> Vec<Corner> {
 }
 
 /// Some corners repeated, and the order mixed: the same hull, said in another way.
-fn mixed(dice: &mut Dice, mut corners: Vec<Corner>) -> Vec<Corner> {
+fn mixed(dice: &mut Dice, mut corners: Vec<Point>) -> Vec<Point> {
     while corners.len() < 32 && dice.once_in(3) {
         corners.push(dice.pick(&corners));
     }
@@ -82,7 +81,7 @@ fn mixed(dice: &mut Dice, mut corners: Vec<Corner>) -> Vec<Corner> {
 }
 
 /// A list of 1 to 32 corners of any kind, within ±`reach` (at least 1).
-pub fn any(dice: &mut Dice, reach: i64) -> Vec<Corner> {
+pub fn any(dice: &mut Dice, reach: Number) -> Vec<Point> {
     let corners = match dice.below(16) {
         0 => cloud(dice, reach, 1),
         1 | 2 => cloud(dice, reach, 2),
@@ -93,11 +92,11 @@ pub fn any(dice: &mut Dice, reach: i64) -> Vec<Corner> {
         }
         6..=8 => some_block(dice, reach),
         9 => {
-            let [w, d, h] = [0; 3].map(|_: i64| dice.between(1, reach));
+            let [w, d, h] = [0; 3].map(|_: Number| dice.between(1, reach));
             vec![[0, 0, 0], [w, 0, 0], [0, d, 0], [0, 0, h]]
         }
         10 => {
-            let [w, d, h] = [0; 3].map(|_: i64| dice.between(1, reach));
+            let [w, d, h] = [0; 3].map(|_: Number| dice.between(1, reach));
             let side = |y| [[0, y, 0], [w, y, 0], [0, y, h]];
             [side(0), side(d)].concat()
         }
@@ -115,6 +114,6 @@ pub fn any(dice: &mut Dice, reach: i64) -> Vec<Corner> {
 }
 
 /// The corners as numbers, three a corner.
-pub fn numbers(corners: &[Corner]) -> Vec<i64> {
+pub fn numbers(corners: &[Point]) -> Vec<Number> {
     corners.concat()
 }

@@ -18,7 +18,7 @@ impl Undo {
     pub fn say(self, script: &mut Script) {
         match self {
             Undo::Cell(part, cell, value) => script.spoil(part, cell, value),
-            Undo::Lend(cells) => script.tell("lend", &[cells as i64]),
+            Undo::Lend(cells) => script.tell("lend", &[cells as Number]),
         }
     }
 
@@ -136,7 +136,7 @@ fn counts(script: &mut Script, dice: &mut Dice) -> Undo {
     if new <= CORNERS {
         for cell in 3 * old..3 * new {
             let value = dice.between(-1, 2);
-            script.spoil(Part::Corners, shape * CORNERS * 3 + cell, value.into());
+            script.spoil(Part::Corners, shape * CORNERS * 3 + cell, value);
         }
     }
     Undo::spoil(script, Part::Counts, shape, new as Number)
@@ -150,10 +150,10 @@ fn corners(script: &mut Script, dice: &mut Dice) -> Undo {
         0 => dice.below(3 * CORNERS),
         _ => dice.below(3 * count),
     };
-    let value = dice.pick(&[65_536, 65_537, -65_537, 0, 1, 2, -1, 1 << 31, -(1i64 << 31)]);
-    let fitting = value.min(i64::from(i32::MAX));
+    let ends = [i32::MAX, i32::MIN].map(Number::from);
+    let value = dice.pick(&[65_536, 65_537, -65_537, 0, 1, 2, -1, ends[0], ends[1]]);
     let cell = shape * CORNERS * 3 + within;
-    Undo::spoil(script, Part::Corners, cell, fitting.into())
+    Undo::spoil(script, Part::Corners, cell, value)
 }
 
 fn some_place(script: &Script, dice: &mut Dice) -> usize {
@@ -232,14 +232,14 @@ fn lying_row(script: &mut Script, dice: &mut Dice) {
     script.spoil(Part::Book, old as usize, less);
     script.spoil(Part::Book, new as usize, more);
     script.say("contacts");
-    script.tell("pair", &[low as i64, high as i64]);
+    script.tell("pair", &[low as Number, high as Number]);
     desks::questions(script, dice);
     for _ in 0..3 {
         desk_command(script, dice);
     }
     if dice.once_in(2) {
         let turn = dice.between(0, 23);
-        script.tell("move", &[high as i64, turn, 0, 0, 1]);
+        script.tell("move", &[high as Number, turn, 0, 0, 1]);
     }
     script.say("rows");
 }
@@ -276,8 +276,8 @@ fn placed_by_hand(script: &mut Script, dice: &mut Dice) {
     let mut after = before.clone();
     let place = dice.below(PLACES);
     let shape = some_shape(script, dice) as Number;
-    let offset = [0; 3].map(|_: Number| dice.between(-2, 2).into());
-    let turn = dice.between(0, 23).into();
+    let offset = [0; 3].map(|_: Number| dice.between(-2, 2));
+    let turn = dice.between(0, 23);
     if after.place(place as Number, shape, turn, offset).is_err() {
         return;
     }
@@ -293,7 +293,7 @@ fn placed_by_hand(script: &mut Script, dice: &mut Dice) {
         }
     }
     script.say("contacts");
-    script.tell("remove", &[place as i64]);
+    script.tell("remove", &[place as Number]);
     script.say("tallies");
 }
 
@@ -321,10 +321,10 @@ fn command_that_keeps(script: &mut Script, dice: &mut Dice) {
 /// Cells that are not there and values that do not fit: no command.
 fn no_such_cell(script: &mut Script, dice: &mut Dice) {
     for part in Part::ALL {
-        let cells = part.cells() as i64;
-        let cell = dice.pick(&[-1, cells, cells + 1, i64::from(i32::MAX)]);
+        let cells = part.cells() as Number;
+        let cell = dice.pick(&[-1, cells, cells + 1, Number::from(i32::MAX)]);
         script.say(&format!("spoil {} {cell} 0", part.word()));
-        let value: i64 = match part {
+        let value: Number = match part {
             Part::Corners | Part::Offsets => 1 << 31,
             Part::Marks => dice.pick(&[-1, 65_536]),
             Part::Book => dice.pick(&[-1, 1 << 31]),

@@ -3,6 +3,7 @@
 
 use super::dice::Dice;
 use super::script::Script;
+use crate::point::Number;
 use crate::words::LONGEST_LINE;
 
 pub fn lengths(script: &mut Script, dice: &mut Dice) {
@@ -71,7 +72,7 @@ pub fn menus(script: &mut Script, dice: &mut Dice) {
     for _ in 0..20 {
         let (translated, english) = (menu_text(dice), menu_text(dice));
         let k = match dice.below(8) {
-            0 => dice.pick(&[i64::from(i32::MAX), 1_000, 255]),
+            0 => dice.pick(&[Number::from(i32::MAX), 1_000, 255]),
             _ => dice.between(0, 5),
         };
         script.say(&format!("line {k} {translated} {english}"));
