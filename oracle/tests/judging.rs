@@ -89,10 +89,18 @@ fn a_changed_line_is_found() {
         for change in [changed_first, changed_last, padded] {
             let mut lines: Vec<String> = answers.iter().map(|(_, a)| a.clone()).collect();
             lines[k] = change(&lines[k]);
+            let still_right =
+                free_weight(&answers[k]) && change(&answers[k].1) == changed_last(&answers[k].1);
             let outcome = judged(&script, &joined(lines.iter()), false);
-            assert_eq!(outcome.wrong, 1, "{}", lines[k]);
+            assert_eq!(outcome.wrong, usize::from(!still_right), "{}", lines[k]);
         }
     }
+}
+
+/// A balance of one pair has the difference zero: every weight in bounds is as good as another.
+fn free_weight((expected, right): &(Expected, String)) -> bool {
+    let count = right.split(' ').nth(5);
+    matches!(expected, Expected::Verdict { .. }) && count == Some("1")
 }
 
 fn changed_first(line: &str) -> String {

@@ -81,6 +81,9 @@ pub fn make(seed: u64, count: usize, kind: Kind) -> Vec<u8> {
     let mut dice = Dice::new(seed);
     let mut script = Script::new(count);
     script.note(&format!("oracle make {seed} {count} {}", kind.word()));
+    if matches!(kind, Kind::All | Kind::Lines) {
+        texts::long_lines(&mut script, &mut dice);
+    }
     if kind == Kind::Lines {
         texts::megabyte(&mut script);
     }

@@ -215,7 +215,7 @@ fn cut_up(script: &mut Script, dice: &mut Dice) {
 }
 
 /// Lines one byte under the greatest length, at it, and one past it, some with thousands of numbers.
-fn long_lines(script: &mut Script, dice: &mut Dice) {
+pub fn long_lines(script: &mut Script, dice: &mut Dice) {
     let (start, spaced) =
         dice.pick(&[("length ", false), ("line 10 - ", false), ("load 1 ", true)]);
     for length in LONGEST_LINE - 1..=LONGEST_LINE + 1 {
