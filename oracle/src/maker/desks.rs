@@ -1,0 +1,231 @@
+//! Long runs on crowded small desks: shapes of a few steps at offsets of a few steps, so that
+//! pieces touch, overlap and part all the time; now and then far ends, full hulls, a full desk.
+
+use super::dice::Dice;
+use super::script::Script;
+use super::shapes::{any, ball, block, numbers};
+use crate::desk::{Part, PLACES, SHAPES};
+use crate::point::{Number, Point};
+
+/// How a desk is laid out: shapes within reach, offsets at multiples of a unit.
+struct Layout {
+    reach: Number,
+    unit: Number,
+    spread: Number,
+    most_places: usize,
+}
+
+fn layout(dice: &mut Dice) -> Layout {
+    let (reach, unit, spread) = match dice.below(10) {
+        0 => (1, 1, 1),
+        1 | 2 => (2, 1, 1),
+        3 | 4 => (3, 1, 2),
+        5 | 6 => (64, 32, 2),
+        7 => (20, 1, 10),
+        8 => (4_096, 2_048, 2),
+        _ => (65_536, 32_768, 1),
+    };
+    let most_places = dice.pick(&[2, 3, 4, 5, 6, 8, 8, 12, 16, 24]);
+    Layout {
+        reach,
+        unit,
+        spread,
+        most_places,
+    }
+}
+
+fn offset(dice: &mut Dice, layout: &Layout) -> [Number; 3] {
+    [0; 3].map(|_: Number| {
+        let whole = layout.unit * dice.between(-layout.spread, layout.spread);
+        let nudged = if dice.once_in(6) {
+            whole + dice.pick(&[-1, 1])
+        } else {
+            whole
+        };
+        nudged.clamp(-65_536, 65_536)
+    })
+}
+
+fn shape(dice: &mut Dice, layout: &Layout) -> Vec<Point> {
+    match dice.below(12) {
+        0 => block([0; 3], [layout.reach; 3]),
+        1 => vec![[0; 3]],
+        2 if dice.once_in(4) => ball(dice, layout.reach.max(20)),
+        _ => any(dice, layout.reach),
+    }
+}
+
+pub fn stretch(script: &mut Script, dice: &mut Dice) {
+    script.start_afresh();
+    let layout = layout(dice);
+    for _ in 0..2 + dice.below(6) {
+        load(script, dice, &layout);
+    }
+    let length = dice.pick(&[20, 60, 120, 240]);
+    for _ in 0..length {
+        one_command(script, dice, &layout);
+    }
+    questions(script, dice);
+    if dice.once_in(30) {
+        full_desk(script, dice);
+    }
+}
+
+fn load(script: &mut Script, dice: &mut Dice, layout: &Layout) {
+    let mut told = vec![dice.below(SHAPES) as Number];
+    told.extend(numbers(&shape(dice, layout)));
+    script.tell("load", &told);
+}
+
+fn loaded(script: &Script) -> Vec<Number> {
+    let shapes = (0..SHAPES).filter(|&shape| script.desk().loaded(shape));
+    shapes.map(|shape| shape as Number).collect()
+}
+
+fn turn(dice: &mut Dice) -> Number {
+    if dice.once_in(2) {
+        0
+    } else {
+        dice.between(0, 23)
+    }
+}
+
+fn place(script: &mut Script, dice: &mut Dice, layout: &Layout) {
+    let places = if layout.most_places < 8 { 8 } else { PLACES };
+    let place = dice.below(places) as Number;
+    let shape = dice.pick(&loaded(script));
+    let turn = turn(dice);
+    let [x, y, z] = offset(dice, layout);
+    script.tell("place", &[place, shape, turn, x, y, z]);
+}
+
+fn one_command(script: &mut Script, dice: &mut Dice, layout: &Layout) {
+    let taken = script.desk().taken_places();
+    if loaded(script).is_empty() {
+        load(script, dice, layout);
+    } else if taken.len() < 2 || (taken.len() < layout.most_places && dice.once_in(3)) {
+        place(script, dice, layout);
+    } else {
+        with_pieces(script, dice, layout, &taken);
+    }
+}
+
+/// A command on a desk that holds at least two pieces.
+fn with_pieces(script: &mut Script, dice: &mut Dice, layout: &Layout, taken: &[usize]) {
+    let piece = dice.pick(taken) as Number;
+    match dice.below(40) {
+        0..=13 => {
+            let turn = turn(dice);
+            let [x, y, z] = offset(dice, layout);
+            script.tell("move", &[piece, turn, x, y, z]);
+        }
+        14..=19 => nudge(script, dice, piece as usize),
+        20..=22 => script.tell("remove", &[piece]),
+        23..=26 => script.tell("pair", &[piece, dice.pick(taken) as Number]),
+        27..=31 => near_pair(script, dice),
+        32..=34 => script.say("contacts"),
+        35 => script.say("tallies"),
+        36 => script.say("rows"),
+        37 if dice.once_in(3) => script.say("marks"),
+        38 if dice.once_in(2) => script.say("report"),
+        39 => load(script, dice, layout),
+        _ => place(script, dice, layout),
+    }
+}
+
+/// A pair whose boxes are not apart, in either order, where there is one.
+fn near_pair(script: &mut Script, dice: &mut Dice) {
+    let mut rows = script.desk().rows().unwrap_or_default();
+    rows.retain(|&(_, _, row)| row != 0);
+    if rows.is_empty() {
+        return;
+    }
+    let (low, high, _) = dice.pick(&rows);
+    let mut pair = [low as Number, high as Number];
+    dice.shuffle(&mut pair);
+    script.tell("pair", &pair);
+}
+
+/// The same pose but for one step, or for nothing at all.
+fn nudge(script: &mut Script, dice: &mut Dice, place: usize) {
+    let desk = script.desk();
+    let turn = desk.cell(Part::Poses, 2 * place + 1);
+    let mut offset = desk.offset(place);
+    let axis = dice.below(3);
+    offset[axis] = (offset[axis] + dice.between(-1, 1)).clamp(-65_536, 65_536);
+    let [x, y, z] = offset;
+    script.tell("move", &[place as Number, turn, x, y, z]);
+}
+
+pub fn questions(script: &mut Script, dice: &mut Dice) {
+    let all = ["contacts", "rows", "tallies", "marks", "report"];
+    for question in all {
+        if dice.once_in(2) {
+            script.say(question);
+        }
+    }
+}
+
+/// Takes all 64 places, in any order, with the shapes that are loaded.
+fn fill(script: &mut Script, dice: &mut Dice, layout: &Layout) {
+    let mut places: Vec<Number> = (0..PLACES as Number).collect();
+    dice.shuffle(&mut places);
+    let shapes = loaded(script);
+    for place in places {
+        let [x, y, z] = offset(dice, layout);
+        let turn = dice.between(0, 23);
+        script.tell("place", &[place, dice.pick(&shapes), turn, x, y, z]);
+    }
+}
+
+/// All 64 places taken by boxes, room for the whole listing or not, and then some moves.
+fn full_desk(script: &mut Script, dice: &mut Dice) {
+    script.start_afresh();
+    let mut told = vec![0];
+    told.extend(numbers(&block([0; 3], [4; 3])));
+    script.tell("load", &told);
+    let layout = Layout {
+        reach: 4,
+        unit: 2,
+        spread: 3,
+        most_places: PLACES,
+    };
+    fill(script, dice, &layout);
+    for question in [
+        "contacts",
+        "rows",
+        "marks",
+        "room 30",
+        "contacts",
+        "room 8192",
+    ] {
+        script.say(question);
+    }
+    for _ in 0..20 {
+        let [x, y, z] = offset(dice, &layout);
+        script.tell("move", &[dice.below(PLACES) as Number, 0, x, y, z]);
+    }
+    script.say("tallies");
+    script.say("marks");
+}
+
+/// The largest desk there is: 32 shapes of 32 corners loaded, 64 places taken, then a run on it.
+pub fn full_hulls(script: &mut Script, dice: &mut Dice) {
+    script.start_afresh();
+    let layout = Layout {
+        reach: 1_000,
+        unit: 100,
+        spread: 30,
+        most_places: PLACES,
+    };
+    for shape in 0..SHAPES as Number {
+        let mut told = vec![shape];
+        told.extend(numbers(&ball(dice, layout.reach)));
+        script.tell("load", &told);
+    }
+    fill(script, dice, &layout);
+    for _ in 0..100 {
+        one_command(script, dice, &layout);
+    }
+    questions(script, dice);
+}

@@ -1,0 +1,200 @@
+//! Pairs of corner lists: tiny and degenerate, boxes that share a face, edge or corner, full hulls
+//! brought into contact on purpose and then nudged, numbers at the ends, and lists to refuse.
+
+use super::dice::Dice;
+use super::script::Script;
+use super::shapes::{any, ball, block, cloud, numbers};
+use crate::point::{cross, dot, minus, plus, times, Number, Point};
+
+const LIMIT: Number = 131_072;
+
+pub fn stretch(script: &mut Script, dice: &mut Dice) {
+    for _ in 0..20 {
+        let (first, second) = match dice.below(20) {
+            0..=3 => tiny(dice),
+            4..=5 => (any(dice, 3), any(dice, 3)),
+            6..=9 => boxes(dice),
+            10..=13 => contact(dice, false),
+            14 => contact(dice, true),
+            15..=16 => extreme(dice),
+            17 => crossed(dice),
+            _ => {
+                refused(script, dice);
+                continue;
+            }
+        };
+        tell(script, &first, &second);
+        if dice.once_in(6) {
+            tell(script, &second, &first);
+        }
+    }
+}
+
+fn tell(script: &mut Script, first: &[Point], second: &[Point]) {
+    tell_numbers(script, &numbers(first), &numbers(second));
+}
+
+fn tell_numbers(script: &mut Script, first: &[Number], second: &[Number]) {
+    let mut all = vec![first.len() as Number];
+    all.extend(first);
+    all.push(second.len() as Number);
+    all.extend(second);
+    script.tell("lists", &all);
+}
+
+/// Up to six corners each on a grid of at most 3 × 3 × 3.
+fn tiny(dice: &mut Dice) -> (Vec<Point>, Vec<Point>) {
+    let grid = dice.between(1, 2);
+    let list = |dice: &mut Dice| {
+        let count = 1 + dice.below(6);
+        let corner = |dice: &mut Dice| [0; 3].map(|_: Number| dice.between(0, grid));
+        (0..count).map(|_| corner(dice)).collect()
+    };
+    (list(dice), list(dice))
+}
+
+/// Two boxes that on each axis are apart, share an end, overlap or are alike; perhaps both sheared.
+fn boxes(dice: &mut Dice) -> (Vec<Point>, Vec<Point>) {
+    let size = dice.pick(&[2, 64, 4_096]);
+    let mut low = [0; 3];
+    let mut high = [0; 3];
+    for axis in 0..3 {
+        (low[axis], high[axis]) = match dice.below(8) {
+            0 => (size + 1, 2 * size),
+            1 | 2 => (size, 2 * size),
+            3 => (-size, 0),
+            4 => (size / 2, 3 * size),
+            5 => (-size, size - 1),
+            6 => (size - 1, size),
+            _ => (0, size),
+        };
+    }
+    let mut first = block([0; 3], [size; 3]);
+    let mut second = block(low, high);
+    if dice.once_in(2) {
+        let factors = [0; 3].map(|_: Number| dice.between(-2, 2));
+        let shear = |[x, y, z]: Point| {
+            let y = y + factors[0] * x;
+            let z = z + factors[1] * x + factors[2] * y;
+            [x, y, z]
+        };
+        first = first.into_iter().map(shear).collect();
+        second = second.into_iter().map(shear).collect();
+    }
+    (first, second)
+}
+
+/// A direction in which the first list may be highest at a corner, an edge or a face.
+fn towards(dice: &mut Dice, first: &[Point], second: &[Point]) -> Point {
+    let edge = |dice: &mut Dice, list: &[Point]| minus(dice.pick(list), dice.pick(list));
+    match dice.below(4) {
+        0 => cross(edge(dice, first), edge(dice, first)),
+        1 => cross(edge(dice, second), edge(dice, second)),
+        2 => cross(edge(dice, first), edge(dice, second)),
+        _ => cloud(dice, 9, 1)[0],
+    }
+}
+
+/// Half way between two corners that lie highest along d; even coordinates make it whole.
+fn highest(list: &[Point], d: Point) -> Point {
+    let top = list.iter().map(|&a| dot(d, a)).max().unwrap_or(0);
+    let there: Vec<Point> = list.iter().copied().filter(|&a| dot(d, a) == top).collect();
+    let last = there.len() - 1;
+    [0, 1, 2].map(|k: usize| (there[0][k] + there[last][k]) / 2)
+}
+
+/// Two lists, the second moved so that both are level in some direction, then perhaps nudged.
+fn contact(dice: &mut Dice, full: bool) -> (Vec<Point>, Vec<Point>) {
+    let reach = dice.pick(&[2, 3, 5, 20, 1_000, 30_000]);
+    let even = |list: Vec<Point>| -> Vec<Point> { list.into_iter().map(|a| times(2, a)).collect() };
+    let list = |dice: &mut Dice| {
+        if full {
+            ball(dice, reach)
+        } else {
+            any(dice, reach)
+        }
+    };
+    let first = even(list(dice));
+    let second = even(list(dice));
+    let d = towards(dice, &first, &second);
+    let from = highest(&first, d);
+    let to = highest(&second, times(-1, d));
+    let mut shift = minus(from, to);
+    if dice.once_in(2) {
+        shift[dice.below(3)] += dice.pick(&[-1, 1]);
+    }
+    let moved = second
+        .into_iter()
+        .map(|b| plus(b, shift).map(|k| k.clamp(-LIMIT, LIMIT)));
+    (first, moved.collect())
+}
+
+/// Points at the very ends of the range.
+fn extreme(dice: &mut Dice) -> (Vec<Point>, Vec<Point>) {
+    let ends = [-LIMIT, 1 - LIMIT, LIMIT - 1, LIMIT, 0, 1, 65_536, -65_536];
+    let list = |dice: &mut Dice| {
+        let count = dice.pick(&[1, 2, 3, 4, 4, 8, 12, 32]);
+        let span = dice.pick(&[2, 4, 8]);
+        let corner = |dice: &mut Dice| {
+            [0; 3].map(|_: Number| {
+                if dice.once_in(5) {
+                    dice.between(-LIMIT, LIMIT)
+                } else {
+                    ends[dice.below(span)]
+                }
+            })
+        };
+        (0..count).map(|_| corner(dice)).collect()
+    };
+    (list(dice), list(dice))
+}
+
+/// Two edges that cross at a point, each with a body behind it, perhaps one step apart.
+fn crossed(dice: &mut Dice) -> (Vec<Point>, Vec<Point>) {
+    let reach = dice.pick(&[3, 10, 1_000]);
+    let [u, v, w] = [0; 3].map(|_: Number| cloud(dice, reach, 1)[0]);
+    let normal = cross(u, v);
+    let side = if dot(normal, w) > 0 { 1 } else { -1 };
+    let mut first = vec![u, times(-1, u)];
+    let mut second = vec![v, times(-1, v)];
+    let bodies = dice.below(4);
+    if bodies & 1 == 1 {
+        first.push(times(side, w));
+    }
+    if bodies & 2 == 2 {
+        second.push(times(-side, w));
+    }
+    if dice.once_in(3) {
+        let axis = dice.below(3);
+        for corner in &mut second {
+            corner[axis] += 1;
+        }
+    }
+    (first, second)
+}
+
+/// Lists whose length or whose numbers are out of range, or both.
+pub fn refused(script: &mut Script, dice: &mut Dice) {
+    let list = |dice: &mut Dice| -> Vec<Number> {
+        let length = match dice.below(3) {
+            0 => dice.pick(&[0, 1, 2, 4, 5, 95, 97, 98, 99, 102, 192]),
+            _ => 3 * (1 + dice.below(32)),
+        };
+        let mut numbers: Vec<Number> = (0..length).map(|_| dice.between(-3, 3)).collect();
+        if dice.once_in(2) && !numbers.is_empty() {
+            let end = [
+                LIMIT,
+                -LIMIT,
+                LIMIT + 1,
+                -LIMIT - 1,
+                Number::from(i32::MAX),
+                Number::from(i32::MIN),
+            ];
+            let k = dice.below(numbers.len());
+            numbers[k] = dice.pick(&end);
+        }
+        numbers
+    };
+    let (first, second) = (list(dice), list(dice));
+    tell_numbers(script, &first, &second);
+}

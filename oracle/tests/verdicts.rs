@@ -1,0 +1,238 @@
+//! The candidate family against searches and certificates that know nothing of it: wide direction
+//! searches on tiny grids, and balances, which prove meeting and, shifted six ways, penetrating.
+
+use oracle::balance::balance;
+use oracle::point::{minus, plus, times, Number, Point, AXES, ORIGIN};
+use oracle::verdict::{decide, is_balance, is_below, is_not_above, Verdict, Weighed};
+
+/// A plain generator of chance for the tests (a linear congruence).
+struct Chance(u64);
+
+impl Chance {
+    fn below(&mut self, count: u64) -> u64 {
+        self.0 = self.0.wrapping_mul(6_364_136_223_846_793_005);
+        self.0 = self.0.wrapping_add(1_442_695_040_888_963_407);
+        (self.0 >> 33) % count
+    }
+
+    fn between(&mut self, low: Number, high: Number) -> Number {
+        low + Number::from(self.below((high - low + 1) as u64))
+    }
+
+    fn list(&mut self, reach: Number, count: u64) -> Vec<Point> {
+        let corner = |c: &mut Chance| [0; 3].map(|_: Number| c.between(-reach, reach));
+        (0..count).map(|_| corner(self)).collect()
+    }
+}
+
+/// For each direction of a cube of directions, the least and greatest value over the set.
+fn spans(set: &[Point], width: Number) -> Vec<(i64, i64)> {
+    let mut spans = Vec::new();
+    for x in -width..=width {
+        for y in -width..=width {
+            for z in -width..=width {
+                let value = |p: &Point| (x * p[0] + y * p[1] + z * p[2]) as i64;
+                let least = set.iter().map(value).min().expect("a set has points");
+                let most = set.iter().map(value).max().expect("a set has points");
+                spans.push((least, most));
+            }
+        }
+    }
+    spans
+}
+
+/// The verdict by all directions of the cube; the zero direction stands in the middle.
+fn by_spans(first: &[(i64, i64)], second: &[(i64, i64)]) -> Verdict {
+    let middle = first.len() / 2;
+    let mut touching = false;
+    for (k, (a, b)) in first.iter().zip(second).enumerate() {
+        if a.1 < b.0 {
+            return Verdict::Separate;
+        }
+        touching |= k != middle && a.1 <= b.0;
+    }
+    if touching {
+        Verdict::Touching
+    } else {
+        Verdict::Penetrating
+    }
+}
+
+fn compare(sets: &[Vec<Point>], width: Number, pairs: impl Iterator<Item = (usize, usize)>) {
+    let spans: Vec<_> = sets.iter().map(|set| spans(set, width)).collect();
+    for (i, j) in pairs {
+        let (verdict, d) = decide(&sets[i], &sets[j]);
+        let wide = by_spans(&spans[i], &spans[j]);
+        assert_eq!(verdict, wide, "{:?} {:?}", sets[i], sets[j]);
+        match verdict {
+            Verdict::Separate => assert!(is_below(d, &sets[i], &sets[j])),
+            Verdict::Touching => assert!(is_not_above(d, &sets[i], &sets[j])),
+            Verdict::Penetrating => assert_eq!(d, ORIGIN),
+        }
+    }
+}
+
+fn grid(side: Number) -> Vec<Point> {
+    let mut grid = Vec::new();
+    for x in 0..side {
+        for y in 0..side {
+            grid.extend((0..side).map(|z| [x, y, z]));
+        }
+    }
+    grid
+}
+
+/// Every two non-empty sets of corners of the unit cube.
+#[test]
+fn every_pair_of_sets_on_the_smallest_grid() {
+    let grid = grid(2);
+    let sets: Vec<Vec<Point>> = (1..256u32)
+        .map(|bits| {
+            let chosen = (0..8).filter(|k| bits >> k & 1 == 1);
+            chosen.map(|k| grid[k]).collect()
+        })
+        .collect();
+    let count = sets.len();
+    let pairs = (0..count).flat_map(|i| (0..count).map(move |j| (i, j)));
+    compare(&sets, 4, pairs);
+}
+
+/// On the grid of 27: all sets of up to two points with each other, and many larger ones.
+#[test]
+fn sets_on_the_grid_of_27() {
+    let grid = grid(3);
+    let mut sets: Vec<Vec<Point>> = grid.iter().map(|&p| vec![p]).collect();
+    for i in 0..grid.len() {
+        sets.extend((0..i).map(|j| vec![grid[i], grid[j]]));
+    }
+    let small = sets.len();
+    let mut chance = Chance(1);
+    for _ in 0..600 {
+        let count = 3 + chance.below(5);
+        let points = (0..count).map(|_| grid[chance.below(27) as usize]);
+        sets.push(points.collect());
+    }
+    let all = sets.len() as u64;
+    let among = (0..small).flat_map(|i| (0..small).map(move |j| (i, j)));
+    let mut pairs: Vec<(usize, usize)> = among.collect();
+    pairs.retain(|_| chance.below(4) == 0);
+    for _ in 0..40_000 {
+        pairs.push((chance.below(all) as usize, chance.below(all) as usize));
+    }
+    compare(&sets, 8, pairs.into_iter());
+}
+
+/// Whole positive weights whose weighted differences sum to zero, whatever their size.
+fn sums_to_zero(pairs: &[Weighed], first: &[Point], second: &[Point]) -> bool {
+    let term = |pair: &Weighed| {
+        let difference = minus(first[pair.first as usize], second[pair.second as usize]);
+        times(pair.weight, difference)
+    };
+    !pairs.is_empty()
+        && pairs.iter().all(|pair| pair.weight > 0)
+        && pairs.iter().map(term).fold(ORIGIN, plus) == ORIGIN
+}
+
+/// A small step in each of six directions still meets: the origin is inside the difference.
+fn is_inside(first: &[Point], second: &[Point], scale: Number) -> bool {
+    let scaled = |list: &[Point]| -> Vec<Point> { list.iter().map(|&p| times(scale, p)).collect() };
+    let (first, second) = (scaled(first), scaled(second));
+    AXES.into_iter()
+        .flat_map(|axis| [axis, times(-1, axis)])
+        .all(|step| {
+            let moved: Vec<Point> = first.iter().map(|&a| plus(a, step)).collect();
+            balance(&moved, &second).is_some_and(|pairs| sums_to_zero(&pairs, &moved, &second))
+        })
+}
+
+/// Each verdict carries a certificate that proves it without any word about candidates.
+fn certify(first: &[Point], second: &[Point], reach: Number) -> Verdict {
+    let (verdict, d) = decide(first, second);
+    let meets = || {
+        let pairs = balance(first, second).expect("lists that meet have a balance");
+        assert!(is_balance(&pairs, first, second), "{first:?} {second:?}");
+    };
+    match verdict {
+        Verdict::Separate => {
+            assert!(is_below(d, first, second), "{first:?} {second:?}");
+            assert_eq!(balance(first, second), None);
+        }
+        Verdict::Touching => {
+            assert!(is_not_above(d, first, second), "{first:?} {second:?}");
+            meets();
+        }
+        Verdict::Penetrating => {
+            meets();
+            // No face of the difference comes nearer to the origin than 1 in its own numbers.
+            let inside = is_inside(first, second, 64 * reach * reach);
+            assert!(inside, "{first:?} {second:?}");
+        }
+    }
+    verdict
+}
+
+fn certify_many(chance: &mut Chance, reach: Number, most: u64, rounds: usize) -> [usize; 3] {
+    let mut seen = [0; 3];
+    for _ in 0..rounds {
+        let (m, n) = (1 + chance.below(most), 1 + chance.below(most));
+        let first = chance.list(reach, m);
+        let mut second = chance.list(reach, n);
+        let shift = chance.list(reach, 1)[0];
+        for corner in &mut second {
+            *corner = plus(*corner, shift);
+        }
+        let verdict = certify(&first, &second, 2 * reach);
+        seen[verdict.number() as usize - 1] += 1;
+    }
+    seen
+}
+
+#[test]
+fn certificates_for_small_lists() {
+    let mut chance = Chance(7);
+    for reach in [1, 2, 3, 6] {
+        let seen = certify_many(&mut chance, reach, 8, 500);
+        assert!(seen.iter().all(|&count| count > 0), "{seen:?}");
+    }
+}
+
+#[test]
+fn certificates_for_larger_lists() {
+    let mut chance = Chance(11);
+    certify_many(&mut chance, 100, 12, 60);
+    certify_many(&mut chance, 1000, 32, 4);
+}
+
+/// Some minutes: `cargo test --release --offline -- --ignored`.
+#[test]
+#[ignore = "takes minutes"]
+fn certificates_for_very_many_lists() {
+    let mut chance = Chance(13);
+    for reach in [1, 2, 3, 4, 10, 50] {
+        certify_many(&mut chance, reach, 6, 20_000);
+        certify_many(&mut chance, reach, 12, 2_000);
+    }
+    certify_many(&mut chance, 1000, 32, 100);
+}
+
+/// Directions and weights keep their bounds at the very ends of the range.
+#[test]
+fn bounds_at_the_ends() {
+    let mut chance = Chance(17);
+    for _ in 0..300 {
+        let end = |c: &mut Chance| [0; 3].map(|_: Number| [-131_072, 131_072][c.below(2) as usize]);
+        let near = |c: &mut Chance| [0; 3].map(|_: Number| c.between(-131_072, 131_072));
+        let list = |c: &mut Chance| -> Vec<Point> {
+            (0..1 + c.below(6))
+                .map(|_| if c.below(2) == 0 { end(c) } else { near(c) })
+                .collect()
+        };
+        let (first, second) = (list(&mut chance), list(&mut chance));
+        let (verdict, d) = decide(&first, &second);
+        assert!(d.iter().all(|k| k.abs() <= 1 << 38));
+        if verdict != Verdict::Separate {
+            let pairs = balance(&first, &second).expect("lists that meet have a balance");
+            assert!(is_balance(&pairs, &first, &second));
+        }
+    }
+}
