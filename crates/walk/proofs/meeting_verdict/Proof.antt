@@ -46,7 +46,7 @@ returns-2 c =
     carries-is (c .touching-with .ensures) (
       refl,
       carries-touching (touching-by (p .0 .0) (p .0 .1) (p .1 .framed) (c .before .before .before .before .shift-of .ensures ∙ ap (λ w. sum3 (w .a) (w .b) (w .c)) v) v (c .before .before .before .before .before .before .before .before .if1 .taken) (c .before .before .before .walk .ensures) (c .before .before .if2 .left))
-      (upto-le tt (c .before .before .before .walk .ensures .reach)) k,
+          (upto-le tt (c .before .before .before .walk .ensures .reach)) k,
     )
 
 touching-with-requires-2 : tie.Need-touching-with-requires-2
