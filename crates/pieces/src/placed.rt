@@ -1,0 +1,138 @@
+// The piece at a taken place: its placed corners as a list, its ends on an axis, and whether two pieces' boxes are apart.
+// A turned and moved corner is worked out coordinate by coordinate, where it is needed.
+ghost use mathlib.Core.Path.{_≡_};
+ghost use Prim.Native.Nat.{_<_, _*_, _/_, _%_};
+ghost use lib.ListN.{length, take};
+ghost use Rattle.ints.specs.Bounds.{Within};
+ghost use Rattle.limits.specs.Limits;
+ghost use Rattle.pieces.specs.Pieces.{lesser, greater, listTo};
+ghost use Rattle.pieces.specs.Placed.{numberAt, Held, PoseAsked, poseOf, EndsOf};
+use turns::placed_axis;
+
+// The least and the greatest placed corner on one axis.
+pub struct Ends {
+    pub low: i32,
+    pub high: i32,
+}
+
+// Where a piece's shape starts in the corners, how many corners it has, and its turn.
+pub struct Pose {
+    pub start: usize,
+    pub count: usize,
+    pub turn: usize,
+}
+
+fn wide(x: u8) -> usize
+    ensures { λ r. ⌜ r ≡ x ⌝ }
+{
+    x as usize
+}
+
+fn lesser(a: i32, b: i32) -> i32
+    ensures { λ r. ⌜ r ≡ lesser a b ⌝ }
+{
+    if a < b {
+        return a;
+    }
+    b
+}
+
+fn greater(a: i32, b: i32) -> i32
+    ensures { λ r. ⌜ r ≡ greater a b ⌝ }
+{
+    if b < a {
+        return a;
+    }
+    b
+}
+
+// Coordinate `axis` of corner i of a piece.
+fn placed_number(
+    corners: &[i32; limits::CORNER_NUMBERS],
+    offsets: &[i32; limits::OFFSET_NUMBERS],
+    pose: Pose,
+    place: usize,
+    i: usize,
+    axis: usize,
+) -> i32
+    requires { ⌜ Held (now corners) (now offsets) pose place × (i < pose .count) × (axis < 3) ⌝ }
+    ensures { λ r. ⌜ (r ≡ numberAt (now (corners .entry)) (now (offsets .entry)) pose place i axis) × Within Limits.placedReach r ⌝ }
+{
+    let start = pose.start;
+    let turn = pose.turn;
+    let x = corners[start + 3 * i];
+    let y = corners[start + (3 * i + 1)];
+    let z = corners[start + (3 * i + 2)];
+    let offset = offsets[3 * place + axis];
+    placed_axis(turn, axis, x, y, z, offset)
+}
+
+// The least and the greatest coordinate of a piece on an axis.
+fn ends_of(
+    corners: &[i32; limits::CORNER_NUMBERS],
+    offsets: &[i32; limits::OFFSET_NUMBERS],
+    pose: Pose,
+    place: usize,
+    axis: usize,
+) -> Ends
+    requires { ⌜ Held (now corners) (now offsets) pose place × (axis < 3) ⌝ }
+    ensures { λ r. ⌜ EndsOf (now (corners .entry)) (now (offsets .entry)) pose place axis r ⌝ }
+{
+    let n = pose.count;
+    let first = placed_number(corners, offsets, pose, place, 0, axis);
+    let mut low = first;
+    let mut high = first;
+    let mut i = 1;
+    while i < n {
+        let v = placed_number(corners, offsets, pose, place, i, axis);
+        low = lesser(v, low);
+        high = greater(v, high);
+        i += 1;
+    }
+    Ends {
+        low: low,
+        high: high,
+    }
+}
+
+fn no_numbers() -> [i32; limits::SHAPE_NUMBERS]
+    ensures { λ r. ⌜ length r ≡ Limits.shapeNumbers ⌝ }
+{
+    [0i32; limits::SHAPE_NUMBERS]
+}
+
+// The placed corners of a piece, three numbers each; the rest of the array is 0.
+fn numbers_of(
+    corners: &[i32; limits::CORNER_NUMBERS],
+    offsets: &[i32; limits::OFFSET_NUMBERS],
+    pose: Pose,
+    place: usize,
+) -> [i32; limits::SHAPE_NUMBERS]
+    requires { ⌜ Held (now corners) (now offsets) pose place ⌝ }
+    ensures { λ r. ⌜ take (3 * pose .count) r ≡ listTo (3 * pose .count) (λ k. numberAt (now (corners .entry)) (now (offsets .entry)) pose place (k / 3) (k % 3)) ⌝ }
+{
+    let n = pose.count;
+    let mut numbers = no_numbers();
+    let mut k = 0;
+    while k < 3 * n {
+        let v = placed_number(corners, offsets, pose, place, k / 3, k % 3);
+        numbers[k] = v;
+        k += 1;
+    }
+    numbers
+}
+
+// What the arrays say of a taken place.
+fn pose_of(counts: &[u8; limits::SHAPES], poses: &[u8; limits::POSE_NUMBERS], place: usize) -> Pose
+    requires { ⌜ PoseAsked (now counts) (now poses) place ⌝ }
+    ensures { λ r. ⌜ r ≡ poseOf (now (counts .entry)) (now (poses .entry)) place ⌝ }
+{
+    let shape = wide(poses[2 * place]) - 1;
+    let turn = wide(poses[2 * place + 1]);
+    let count = wide(counts[shape]);
+    Pose {
+        start: shape * limits::SHAPE_NUMBERS,
+        count: count,
+        turn: turn,
+    }
+}
