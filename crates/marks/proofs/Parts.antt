@@ -95,8 +95,8 @@ reordered-marks x y z place m m′ l e = record {
   is = e .0;
   stays = λ old new r k o p. record {
     long = e .1;
-    on-x = subst (InPlace (axisOf new 0)) (sym (e .2)) (stays-in-place (axisOf old 0) (axisOf new 0) x place (partX m) l (r 0 (omega arith)) (k .on-x) (on-axis place 0 old new o) (p .on-x));
-    on-y = subst (InPlace (axisOf new 1)) (sym (e .3)) (stays-in-place (axisOf old 1) (axisOf new 1) y place (partY m) l (r 1 (omega arith)) (k .on-y) (on-axis place 1 old new o) (p .on-y));
-    on-z = subst (InPlace (axisOf new 2)) (sym (e .4)) (stays-in-place (axisOf old 2) (axisOf new 2) z place (partZ m) l (r 2 (omega arith)) (k .on-z) (on-axis place 2 old new o) (p .on-z));
+    on-x = subst (InPlace (axisOf new 0)) (sym (e .2)) (stays-in-place (axisOf old 0) (axisOf new 0) x place (partX m) l (r 0 (omega arith)) (k .on-x) (on-axis place 0 old new (omega arith) o) (p .on-x));
+    on-y = subst (InPlace (axisOf new 1)) (sym (e .3)) (stays-in-place (axisOf old 1) (axisOf new 1) y place (partY m) l (r 1 (omega arith)) (k .on-y) (on-axis place 1 old new (omega arith) o) (p .on-y));
+    on-z = subst (InPlace (axisOf new 2)) (sym (e .4)) (stays-in-place (axisOf old 2) (axisOf new 2) z place (partZ m) l (r 2 (omega arith)) (k .on-z) (on-axis place 2 old new (omega arith) o) (p .on-z));
   };
 }

@@ -3,7 +3,7 @@
 use mathlib.Core.Path.{_≡_, ap, sym, _∙_}
 use mathlib.Core.List.{List, _++_}
 use mathlib.Core.Bool.{false}
-use Prim.Native.Nat.{ℕ, _+_, _*_}
+use Prim.Native.Nat.{ℕ, _+_, _*_, _<_}
 use native.Mathlib.Omega.{arith}
 use lib.ListN.{length, drop, replicate, length-drop, length-replicate, take-append-drop}
 use lib.Seq.{drop-drop, take-all}
@@ -37,5 +37,5 @@ none-in-place-marks a h = record {
 }
 
 -- on each axis the other places stay
-pub on-axis : (place axis : ℕ) (old new : Axes) → OthersStayMarks place old new → OthersStay place (axisOf old axis) (axisOf new axis)
-on-axis place axis old new o = record { taken = o .taken; low = o .low axis; high = o .high axis }
+pub on-axis : (place axis : ℕ) (old new : Axes) → axis < 3 → OthersStayMarks place old new → OthersStay place (axisOf old axis) (axisOf new axis)
+on-axis place axis old new h o = record { taken = o .taken; low = λ p. o .low axis p h; high = λ p. o .high axis p h }

@@ -99,8 +99,8 @@ pub record OthersStay (place : ℕ) (old new : Axis) : Type 0 where
 
 pub record OthersStayMarks (place : ℕ) (old new : Axes) : Type 0 where
   pub taken : (p : ℕ) → p < Limits.places → (p ≡ place → ⊥) → old .taken p ≡ new .taken p
-  pub low : (axis p : ℕ) → p < Limits.places → (p ≡ place → ⊥) → old .taken p ≡ true → old .low axis p ≡ new .low axis p
-  pub high : (axis p : ℕ) → p < Limits.places → (p ≡ place → ⊥) → old .taken p ≡ true → old .high axis p ≡ new .high axis p
+  pub low : (axis p : ℕ) → axis < 3 → p < Limits.places → (p ≡ place → ⊥) → old .taken p ≡ true → old .low axis p ≡ new .low axis p
+  pub high : (axis p : ℕ) → axis < 3 → p < Limits.places → (p ≡ place → ⊥) → old .taken p ≡ true → old .high axis p ≡ new .high axis p
 
 -- 1 where the test holds, else 0; the sum over the numbers below n
 abbrev pub oneIf : Bool → ℕ

@@ -1,11 +1,13 @@
 // The piece at a taken place: its placed corners as a list, its ends on an axis, and whether two pieces' boxes are apart.
 // A turned and moved corner is worked out coordinate by coordinate, where it is needed.
 ghost use mathlib.Core.Path.{_≡_};
-ghost use Prim.Native.Nat.{_<_, _*_, _/_, _%_};
+ghost use Prim.Native.Nat.{_≤_, _<_, _*_, _/_, _%_};
 ghost use lib.ListN.{length, take};
 ghost use Rattle.ints.specs.Bounds.{Within};
 ghost use Rattle.limits.specs.Limits;
-ghost use Rattle.pieces.specs.Pieces.{lesser, greater, listTo};
+ghost use Rattle.limits.specs.Decides.{Decides};
+ghost use Rattle.pieces.specs.Pieces.{lesser, greater, listTo, storeOf, countAt};
+ghost use Rattle.pieces.specs.Boxes.{Piece, Numbers, EndsAt, ApartOn, Apart};
 ghost use Rattle.pieces.specs.Placed.{numberAt, Held, PoseAsked, poseOf, EndsOf};
 use turns::placed_axis;
 
@@ -135,4 +137,97 @@ fn pose_of(counts: &[u8; limits::SHAPES], poses: &[u8; limits::POSE_NUMBERS], pl
         count: count,
         turn: turn,
     }
+}
+
+// The placed corners of the piece at a taken place; the first three times its count are its numbers.
+pub fn piece_numbers(
+    counts: &[u8; limits::SHAPES],
+    corners: &[i32; limits::CORNER_NUMBERS],
+    poses: &[u8; limits::POSE_NUMBERS],
+    offsets: &[i32; limits::OFFSET_NUMBERS],
+    place: usize,
+) -> [i32; limits::SHAPE_NUMBERS]
+    requires { ⌜ Piece (storeOf (now counts) (now corners) (now poses) (now offsets)) place ⌝ }
+    ensures { λ r. ⌜ Numbers (storeOf (now (counts .entry)) (now (corners .entry)) (now (poses .entry)) (now (offsets .entry))) place r ⌝ }
+{
+    let pose = pose_of(counts, poses, place);
+    numbers_of(corners, offsets, pose, place)
+}
+
+// How many corners it has.
+pub fn piece_count(
+    counts: &[u8; limits::SHAPES],
+    corners: &[i32; limits::CORNER_NUMBERS],
+    poses: &[u8; limits::POSE_NUMBERS],
+    offsets: &[i32; limits::OFFSET_NUMBERS],
+    place: usize,
+) -> usize
+    requires { ⌜ Piece (storeOf (now counts) (now corners) (now poses) (now offsets)) place ⌝ }
+    ensures { λ r. ⌜ (r ≡ countAt (storeOf (now (counts .entry)) (now (corners .entry)) (now (poses .entry)) (now (offsets .entry))) place) × (r ≤ Limits.corners) ⌝ }
+{
+    let pose = pose_of(counts, poses, place);
+    pose.count
+}
+
+// Its ends on an axis.
+pub fn piece_ends(
+    counts: &[u8; limits::SHAPES],
+    corners: &[i32; limits::CORNER_NUMBERS],
+    poses: &[u8; limits::POSE_NUMBERS],
+    offsets: &[i32; limits::OFFSET_NUMBERS],
+    place: usize,
+    axis: usize,
+) -> Ends
+    requires { ⌜ Piece (storeOf (now counts) (now corners) (now poses) (now offsets)) place × (axis < 3) ⌝ }
+    ensures { λ r. ⌜ EndsAt (storeOf (now (counts .entry)) (now (corners .entry)) (now (poses .entry)) (now (offsets .entry))) place axis r ⌝ }
+{
+    let pose = pose_of(counts, poses, place);
+    ends_of(corners, offsets, pose, place, axis)
+}
+
+// Whether two pieces' boxes are apart on an axis: one's high is below the other's low.
+fn apart_on(
+    counts: &[u8; limits::SHAPES],
+    corners: &[i32; limits::CORNER_NUMBERS],
+    poses: &[u8; limits::POSE_NUMBERS],
+    offsets: &[i32; limits::OFFSET_NUMBERS],
+    p: usize,
+    q: usize,
+    axis: usize,
+) -> bool
+    requires { ⌜ Piece (storeOf (now counts) (now corners) (now poses) (now offsets)) p × Piece (storeOf (now counts) (now corners) (now poses) (now offsets)) q × (axis < 3) ⌝ }
+    ensures { λ r. ⌜ Decides r (ApartOn (storeOf (now (counts .entry)) (now (corners .entry)) (now (poses .entry)) (now (offsets .entry))) p q axis) ⌝ }
+{
+    let a = piece_ends(counts, corners, poses, offsets, p, axis);
+    let b = piece_ends(counts, corners, poses, offsets, q, axis);
+    let a_low = a.low;
+    let a_high = a.high;
+    let b_low = b.low;
+    let b_high = b.high;
+    if a_high < b_low {
+        return true;
+    }
+    b_high < a_low
+}
+
+// Whether the boxes of two pieces are apart: left at the first axis that parts them.
+pub fn boxes_apart(
+    counts: &[u8; limits::SHAPES],
+    corners: &[i32; limits::CORNER_NUMBERS],
+    poses: &[u8; limits::POSE_NUMBERS],
+    offsets: &[i32; limits::OFFSET_NUMBERS],
+    p: usize,
+    q: usize,
+) -> bool
+    requires { ⌜ Piece (storeOf (now counts) (now corners) (now poses) (now offsets)) p × Piece (storeOf (now counts) (now corners) (now poses) (now offsets)) q ⌝ }
+    ensures { λ r. ⌜ Decides r (Apart (storeOf (now (counts .entry)) (now (corners .entry)) (now (poses .entry)) (now (offsets .entry))) p q) ⌝ }
+{
+    let mut axis = 0;
+    while axis < 3 {
+        if apart_on(counts, corners, poses, offsets, p, q, axis) {
+            return true;
+        }
+        axis += 1;
+    }
+    false
 }

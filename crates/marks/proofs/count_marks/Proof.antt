@@ -31,9 +31,9 @@ returns c =
       is = omega (arith, x .is, y .is, z .is);
       most = omega (arith, x .most, y .most, z .most);
       true-count = λ a b ka kb o was is.
-          let tx = x .true-count (axisOf a 0) (axisOf b 0) (ka .on-x) (kb .on-x) (on-axis p 0 a b o) was is in
-          let ty = y .true-count (axisOf a 1) (axisOf b 1) (ka .on-y) (kb .on-y) (on-axis p 1 a b o) was is in
-          let tz = z .true-count (axisOf a 2) (axisOf b 2) (ka .on-z) (kb .on-z) (on-axis p 2 a b o) was is in
+          let tx = x .true-count (axisOf a 0) (axisOf b 0) (ka .on-x) (kb .on-x) (on-axis p 0 a b (omega arith) o) was is in
+          let ty = y .true-count (axisOf a 1) (axisOf b 1) (ka .on-y) (kb .on-y) (on-axis p 1 a b (omega arith) o) was is in
+          let tz = z .true-count (axisOf a 2) (axisOf b 2) (ka .on-z) (kb .on-z) (on-axis p 2 a b (omega arith) o) was is in
           omega (arith, tx, ty, tz);
     }
 
