@@ -1,0 +1,82 @@
+// The keys of all marks of one axis, from the arrays that the desk lends: what the order test and the reordering compare.
+// A mark's value is the end of its piece on the axis, worked out where the key is made.
+ghost use mathlib.Core.Path.{_≡_};
+ghost use Prim.Native.Nat.{_<_, _/_};
+ghost use lib.ListN.{length};
+ghost use Rattle.ints.specs.Bounds.{Within};
+ghost use Rattle.limits.specs.Limits;
+ghost use Rattle.marks.specs.Marks.{axisOf, valueOf};
+ghost use Rattle.marks.specs.Keys.{keyAt, Keyed};
+ghost use Rattle.pieces.specs.Pieces.{storeOf, axesOf, PiecesInOrder};
+ghost use Rattle.pieces.specs.Boxes.{Piece};
+use crate::placed::piece_ends;
+use marks::keys::NO_KEY;
+use marks::keys::mark_key;
+use rows::is_taken;
+
+// The value of a mark of a taken place.
+fn mark_value(
+    counts: &[u8; limits::SHAPES],
+    corners: &[i32; limits::CORNER_NUMBERS],
+    poses: &[u8; limits::POSE_NUMBERS],
+    offsets: &[i32; limits::OFFSET_NUMBERS],
+    axis: usize,
+    mark: usize,
+) -> i32
+    requires { ⌜ Piece (storeOf (now counts) (now corners) (now poses) (now offsets)) (mark / 2) × (axis < 3) ⌝ }
+    ensures { λ r. ⌜ (r ≡ valueOf (axisOf (axesOf (storeOf (now (counts .entry)) (now (corners .entry)) (now (poses .entry)) (now (offsets .entry)))) axis) mark) × Within Limits.placedReach r ⌝ }
+{
+    let e = piece_ends(counts, corners, poses, offsets, mark / 2, axis);
+    let low = e.low;
+    let high = e.high;
+    if mark % 2 == 0 {
+        return low;
+    }
+    high
+}
+
+// The key of a mark, above every other where its place is empty.
+fn key_for(
+    counts: &[u8; limits::SHAPES],
+    corners: &[i32; limits::CORNER_NUMBERS],
+    poses: &[u8; limits::POSE_NUMBERS],
+    offsets: &[i32; limits::OFFSET_NUMBERS],
+    axis: usize,
+    mark: usize,
+) -> u32
+    requires { ⌜ PiecesInOrder (storeOf (now counts) (now corners) (now poses) (now offsets)) × (axis < 3) × (mark < Limits.axisMarks) ⌝ }
+    ensures { λ r. ⌜ r ≡ keyAt (axisOf (axesOf (storeOf (now (counts .entry)) (now (corners .entry)) (now (poses .entry)) (now (offsets .entry)))) axis) mark ⌝ }
+{
+    if is_taken(poses, mark / 2) {
+        let value = mark_value(counts, corners, poses, offsets, axis, mark);
+        return mark_key(value, mark);
+    }
+    NO_KEY
+}
+
+fn no_keys() -> [u32; limits::AXIS_MARKS]
+    ensures { λ r. ⌜ length r ≡ Limits.axisMarks ⌝ }
+{
+    [NO_KEY; limits::AXIS_MARKS]
+}
+
+// The keys of one axis.
+pub fn keys_of(
+    counts: &[u8; limits::SHAPES],
+    corners: &[i32; limits::CORNER_NUMBERS],
+    poses: &[u8; limits::POSE_NUMBERS],
+    offsets: &[i32; limits::OFFSET_NUMBERS],
+    axis: usize,
+) -> [u32; limits::AXIS_MARKS]
+    requires { ⌜ PiecesInOrder (storeOf (now counts) (now corners) (now poses) (now offsets)) × (axis < 3) ⌝ }
+    ensures { λ r. ⌜ Keyed (axisOf (axesOf (storeOf (now (counts .entry)) (now (corners .entry)) (now (poses .entry)) (now (offsets .entry)))) axis) r ⌝ }
+{
+    let mut keys = no_keys();
+    let mut mark = 0;
+    while mark < limits::AXIS_MARKS {
+        let key = key_for(counts, corners, poses, offsets, axis, mark);
+        keys[mark] = key;
+        mark += 1;
+    }
+    keys
+}
