@@ -739,7 +739,7 @@ fn meeting_verdict(f: Frame, e: Ended, first: &[i32], second: &[i32]) -> Answer
 }
 
 // The verdict of two lists of placed corners, with its witnesses.
-fn verdict(first: &[i32], second: &[i32]) -> Answer
+pub fn verdict(first: &[i32], second: &[i32]) -> Answer
     requires { ⌜ Placed (now first) × Placed (now second) ⌝ }
     ensures { λ r. ⌜ (r .number ≡ 0) × Carries (now (first .entry)) (now (second .entry)) r ⌝ }
 {
