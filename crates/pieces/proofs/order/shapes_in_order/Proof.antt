@@ -26,7 +26,7 @@ shape-in-order-requires : tie.Need-shape-in-order-requires Inv-loop μ-loop
 shape-in-order-requires c κs = search needs
 
 returns : tie.Need-returns Inv-loop μ-loop
-returns c = fails refl (λ o. unless-taken (c .before .shape-in-order .ensures) (c .if1 .taken) (one-shape o (c .before .before .before .loop .shape) (c .before .before .loop-test .taken)))
+returns c = fails refl (λ o. unless-taken (c .before .shape-in-order .ensures) (c .if1 .taken) (one-shape o (c .before .before .before .loop .shape) (omega arith)))
 
 add-shape : tie.Need-add-shape Inv-loop μ-loop
 add-shape c = search needs
