@@ -1,3 +1,4 @@
 pub mod Desk
+pub mod OrderLaws
 pub mod PutLaws
 pub mod RowLaws
