@@ -1,6 +1,6 @@
 -- Laws of hex words: a pattern read digit by digit, a text's bytes pair by pair. Two answers to one word are equal (`pattern-once`, `text-once`).
 use Prim.Native.Nat.{ℕ, zero, suc, _≤_, _<_, _+_, _-_, _*_, _^_}
-use mathlib.Core.Path.{_≡_, refl, sym, ap, ap₂, _∙_}
+use mathlib.Core.Path.{_≡_, refl, sym, ap, ap₂, _∙_, subst}
 use mathlib.Core.List.{List, [], _∷_, _++_}
 use mathlib.Core.Bool.{Bool, true, false, cond, false≢true}
 use mathlib.Core.Logic.{_⊎_, inl, inr}
@@ -93,3 +93,7 @@ module _ (b : ℕ) where
   pub worth-none : inRange 48 57 b ≡ false → inRange 65 70 b ≡ false → inRange 97 102 b ≡ false → 16 ≡ worthOf b
   unfolding worthOf
   worth-none n m k = skip (b - 87) 16 (inRange 97 102 b) k ∙ skip (b - 55) _ (inRange 65 70 b) m ∙ skip (b - 48) _ (inRange 48 57 b) n
+
+-- ---- a text that was read stands within the room
+pub text-fits : (word room exit : List ℕ) (r : Text) (n : ℕ) → r ≡ Bytes n → TextReads word room exit r → n ≤ length room
+text-fits word room exit r n e h = subst (TextReads word room exit) e h .2

@@ -1,7 +1,7 @@
 // The words of a line, which exactly one space separates: where a word ends, and a run of words that are numbers.
 // A line is cut at each space, so a space at either end and a double space leave an empty word, which is no number.
 ghost use mathlib.Core.Path.{_≡_};
-ghost use Prim.Native.Nat.{_+_, min};
+ghost use Prim.Native.Nat.{_≤_, _+_, min};
 ghost use lib.ListN.{length, drop};
 ghost use Rattle.words.specs.Words.{firstWord, Listed};
 use crate::number::Number;
@@ -15,7 +15,8 @@ pub enum Count {
 
 // Where the word ends that starts at a place: at the first space from there on, or at the line's end.
 pub fn word_end(line: &[u8], start: usize) -> usize
-    ensures { λ r. ⌜ r ≡ min start (length (now (line .entry))) + length (firstWord (drop start (now (line .entry)))) ⌝ }
+    ensures place { λ r. ⌜ r ≡ min start (length (now (line .entry))) + length (firstWord (drop start (now (line .entry)))) ⌝ }
+    ensures within { λ r. ⌜ r ≤ length (now (line .entry)) ⌝ }
 {
     if line.len() < start {
         return line.len();

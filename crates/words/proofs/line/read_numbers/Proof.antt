@@ -64,17 +64,17 @@ word-end-requires : tie.Need-word-end-requires Inv-loop μ-loop
 word-end-requires c κs = tt
 
 ends-at : (c : tie.After-word-end Inv-loop μ-loop) → (c .before .before .loop .at ≤ c .word-end .result) × (c .word-end .result ≤ length (c .before .before .before .before .args .line .now))
-ends-at c = ends (c .before .before .before .before .args .line .now) (c .before .before .loop .at) (c .word-end .result) (c .before .loop-test .taken) (c .word-end .ensures)
+ends-at c = ends (c .before .before .before .before .args .line .now) (c .before .before .loop .at) (c .word-end .result) (c .before .loop-test .taken) (c .word-end .ensures .0)
 
 -- the word that was read, the number that it is, and that its cell keeps it
 abbrev line-of : tie.After-word-end Inv-loop μ-loop → List ℕ
 line-of c = c .before .before .before .before .args .line .now
 
 abbrev word-of : tie.After-word-end Inv-loop μ-loop → List ℕ
-word-of c = word (line-of c) (c .before .before .loop .at) (c .word-end .result) (c .before .loop-test .taken) (c .word-end .ensures)
+word-of c = word (line-of c) (c .before .before .loop .at) (c .word-end .result) (c .before .loop-test .taken) (c .word-end .ensures .0)
 
 some-at : (c : tie.After-word-end Inv-loop μ-loop) → (rest : List (List ℕ)) × (wordsOf (drop (c .before .before .loop .at) (line-of c)) ≡ word-of c ∷ rest)
-some-at c = some (line-of c) (c .before .before .loop .at) (c .word-end .result) (c .before .loop-test .taken) (c .word-end .ensures)
+some-at c = some (line-of c) (c .before .before .loop .at) (c .word-end .result) (c .before .loop-test .taken) (c .word-end .ensures .0)
 
 stored : (w : List ℕ) (r : Number) (v : ℤ) → r ≡ Value v → Reads w r → Reads w (Value (toZ w32 (ofZ w32 v)))
 stored w r v e h =
@@ -136,7 +136,7 @@ returns-3 : tie.Need-returns-3 Inv-loop μ-loop
 returns-3 c =
     let w = c .before .before .before .before .before .before .before in
     let d = w .before .before .loop .inv in
-    let e = last (line-of w) (w .before .before .loop .at) (w .word-end .result) (w .before .loop-test .taken) (w .word-end .ensures) (c .if2 .taken) in
+    let e = last (line-of w) (w .before .before .loop .at) (w .word-end .result) (w .before .loop-test .taken) (w .word-end .ensures .0) (c .if2 .taken) in
     done-last d (word-of w) _ e (value-of (c .before)) (omega (arith, c .before .if1 .left, done-length d))
 
 add-at : tie.Need-add-at Inv-loop μ-loop
@@ -149,7 +149,7 @@ loop-again : tie.Need-loop-again Inv-loop μ-loop
 loop-again c =
     let w = c .before .before .before .before .before .before .before in
     let d = w .before .before .loop .inv in
-    let e = next (line-of w) (w .before .before .loop .at) (w .word-end .result) (w .before .loop-test .taken) (w .word-end .ensures) (c .if2 .left) in
+    let e = next (line-of w) (w .before .before .loop .at) (w .word-end .result) (w .before .loop-test .taken) (w .word-end .ensures .0) (c .if2 .left) in
     done-more d (word-of w) (drop (w .word-end .result + 1) (line-of w)) _ e (value-of (c .before)) (omega (arith, c .before .if1 .left, done-length d))
 
 same-length-4 : tie.Need-same-length-4 Inv-loop μ-loop
