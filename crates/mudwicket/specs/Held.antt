@@ -1,4 +1,5 @@
 -- That the program stays in range: what it holds of its buffers lies within them.
+-- Nothing here says which answer is right: that is said of the functions that the program calls.
 use Prim.Native.Nat.{ℕ, _≤_, _<_}
 use Rattle.mudwicket.specs.declared.input.State.{State}
 use Rattle.mudwicket.specs.declared.parts.Ends.{Ends}

@@ -1,4 +1,5 @@
 // From a line to its command. A line of no bytes and a line that begins with `#` are passed over; one that is no command gets a `?`.
+// A command is a variant of `Command`, its word in `command_of`, and the arm of `answer` that calls its function.
 use crate::input;
 use crate::out;
 use crate::texts;

@@ -1,5 +1,6 @@
 // The parts of a line: where the words behind the command's own begin, exactly three words, and a number that is not negative.
-ghost use Prim.Native.Nat.{_≤_, _<_};
+// `end` is where the command's own word ends.
+ghost use Prim.Native.Nat.{_<_};
 ghost use lib.ListN.{length};
 ghost use Rattle.mudwicket.specs.Held.{Parted};
 

@@ -1,7 +1,6 @@
 // The commands on texts: a typed length, and a menu's line.
 // `end` is where the command's own word ends.
 ghost use mathlib.Core.Path.{_≡_};
-ghost use mathlib.Core.Bool.{true};
 ghost use Prim.Native.Nat.{_≤_, _<_, _+_};
 ghost use lib.ListN.{length};
 ghost use Rattle.mudwicket.specs.Held.{Kept};

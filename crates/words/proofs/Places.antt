@@ -1,4 +1,5 @@
 -- What is left of a word from a place on: the byte there, and what is left after it.
+-- The loops over a word's digits go by it.
 use Prim.Native.Nat.{ℕ, _<_, _+_}
 use mathlib.Core.Path.{_≡_}
 use mathlib.Core.List.{List, _∷_}

@@ -1,10 +1,10 @@
--- Laws of hex words: a pattern read digit by digit, a text's bytes pair by pair. Two answers to one word are equal (`pattern-once`, `text-once`).
+-- Laws of hex words: a pattern is read digit by digit, a text's bytes pair by pair.
+-- Two answers that are allowed for one word are equal (`pattern-once`, `text-once`).
 use Prim.Native.Nat.{ℕ, zero, suc, _≤_, _<_, _+_, _-_, _*_, _^_}
 use mathlib.Core.Path.{_≡_, refl, sym, ap, ap₂, _∙_, subst}
 use mathlib.Core.List.{List, [], _∷_, _++_}
 use mathlib.Core.Bool.{Bool, true, false, cond, false≢true}
-use mathlib.Core.Logic.{_⊎_, inl, inr}
-use native.Mathlib.Nat.{pow-suc, pow-succ', mul-assoc, add-mul, zero-mul, mul-le-mul-right}
+use native.Mathlib.Nat.{pow-succ', mul-assoc, add-mul, zero-mul}
 use native.Mathlib.Omega.{arith}
 use lib.ListN.{length, getD, drop}
 use Rattle.words.specs.Hex.{inRange, worthOf, HexDigits, hexNumber, PatternReads, bytesOf, TextReads}

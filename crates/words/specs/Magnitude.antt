@@ -5,7 +5,7 @@ use mathlib.Core.Path.{_≡_}
 use mathlib.Core.List.{List}
 use mathlib.Core.Logic.{ite}
 use native.Mathlib.Decide.{decLe}
-use lib.IntN.{ℤ, pos, negℤ}
+use lib.IntN.{pos, negℤ}
 use Rattle.typed.specs.Decimal.{number}
 use Rattle.words.specs.Numbers.{Figures}
 use Rattle.words.specs.declared.number.Number.{Number}

@@ -1,4 +1,5 @@
 -- What is printed: a text put into lent room at a place, and a number's digits.
+-- `Put`, `PutNumber` and `PutHex` are all that is promised of the room afterwards and of the place handed back.
 use Prim.Native.Nat.{ℕ, _≤_, _<_, _+_, min, max}
 use mathlib.Core.Path.{_≡_}
 use mathlib.Core.List.{List, _∷_, _++_}

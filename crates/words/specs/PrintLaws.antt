@@ -1,19 +1,18 @@
 -- Laws of what is printed: there is one result (`put-once`, `written-once`), a number's digits name it again (`written-number`), and a byte
 -- put in front of a text makes one text.
 use Prim.Native.Nat.{ℕ, zero, suc, _≤_, _<_, _+_, _-_, _*_, _/_, _%_, _^_}
-use mathlib.Core.Path.{_≡_, refl, sym, ap, ap₂, _∙_, subst}
+use mathlib.Core.Path.{_≡_, sym, ap, ap₂, _∙_, subst}
 use mathlib.Core.List.{List, [], _∷_, _++_}
 use native.Mathlib.Decide.{decLe, decLt}
-use native.Mathlib.Nat.{pow-suc, pow-le-pow-right, mul-assoc, add-mul}
+use native.Mathlib.Nat.{pow-suc, pow-le-pow-right, mul-assoc}
 use native.Mathlib.Numerals.{add-one}
 use native.Mathlib.Omega.{arith}
 use borrow.Author.Tests.{lt-ltb}
-use lib.Dec.{ltb}
 use lib.ListN.{length, take, drop, set, length-append, length-set}
 use lib.Seq.{take-suc-set, drop-set-lt, append-snoc}
 use Rattle.io.specs.Digits.{glyph, digits, Fewest}
 use Rattle.typed.specs.Decimal.{Digit, Digits, number}
-use Rattle.words.specs.Print.{withAt, Put, Written}
+use Rattle.words.specs.Print.{Put, Written}
 
 -- ---- one result
 pub put-once : {room : List ℕ} {at : ℕ} {text x y : List ℕ} {q r : ℕ} → Put room at text x q → Put room at text y r → (x ≡ y) × (q ≡ r)

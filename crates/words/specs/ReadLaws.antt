@@ -1,7 +1,8 @@
--- Laws of a run of numbers: `Done` is what stands at each word, and each way to go on from there. Two answers to one text are equal (`listed-once`).
+-- Laws of a run of numbers: `Done` is what stands at each word, with each way to go on from there.
+-- Two answers that are allowed for one text and room are equal (`listed-once`).
 use Prim.Native.Nat.{ℕ, suc, _≤_, _<_, _+_, _-_}
 use mathlib.Core.Path.{_≡_, refl, sym, ap, ap₂, _∙_, subst}
-use mathlib.Core.List.{List, [], _∷_, _++_, append-assoc}
+use mathlib.Core.List.{List, [], _∷_, _++_}
 use mathlib.Core.Logic.{_⊎_, inl, inr}
 use native.Mathlib.Numerals.{add-one}
 use native.Mathlib.Omega.{arith}
@@ -9,9 +10,8 @@ use lib.IntN.{ℤ}
 use lib.ListN.{length, getD, drop, set, length-append, length-drop}
 use lib.Seq.{drop-cons, set-at, append-snoc}
 use Rattle.words.specs.Numbers.{Reads}
-use Rattle.words.specs.NumberLaws.{names-once, reads-once}
+use Rattle.words.specs.NumberLaws.{names-once}
 use Rattle.words.specs.Words.{wordsOf, AreNumbers, filled, Stuck, Listed}
-use Rattle.words.specs.declared.number.Number.{Number}
 use Rattle.words.specs.declared.number.Number.the-variants.{Value, Bad}
 use Rattle.words.specs.declared.line.Count.{Count}
 use Rattle.words.specs.declared.line.Count.the-variants.{Numbers, Bad as Failed}

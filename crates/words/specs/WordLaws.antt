@@ -1,10 +1,10 @@
--- Laws of a line's words: the first one, and the words after it.
-use Prim.Native.Nat.{ℕ, suc, _≤_, _<_, _+_}
-use mathlib.Core.Path.{_≡_, refl, sym, ap, _∙_, subst}
-use mathlib.Core.List.{List, [], _∷_, _++_}
-use mathlib.Core.Logic.{ite, if-pos, if-neg}
+-- Laws of a line's words: the first one is what the line starts with, and the words after its space are those of what is left.
+-- Words are read by these, one after the other.
+use Prim.Native.Nat.{ℕ, suc, _≤_, _<_}
+use mathlib.Core.Path.{_≡_, refl, ap}
+use mathlib.Core.List.{List, [], _∷_}
+use mathlib.Core.Logic.{ite, if-neg}
 use native.Mathlib.Decide.{ℕ-discrete}
-use native.Mathlib.Numerals.{add-one}
 use native.Mathlib.Omega.{arith}
 use lib.ListN.{length, take, drop}
 use Rattle.words.specs.Words.{firstWord, onto, wordsOf}

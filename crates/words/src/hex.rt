@@ -1,4 +1,5 @@
 // Words of hex digits of either case: a bit pattern of 8 digits, and a text of two digits a byte, or a `-` for the text of no bytes.
+// A text is measured before it is decoded, so that the lent room stays as it was where the word is no text.
 ghost use mathlib.Core.Path.{_≡_};
 ghost use mathlib.Core.Bool.{true};
 ghost use mathlib.Core.Logic.{_↔_};

@@ -1,4 +1,5 @@
-// Bytes, numbers and hex put into lent room at a place: all of it, with the next place handed back, or nothing where the room is too short.
+// Bytes, numbers and hex put into lent room at a place, with the next place handed back.
+// All of it is put, or nothing where the room is too short: then the place handed back is the one that was given.
 ghost use mathlib.Core.Path.{_≡_};
 ghost use mathlib.Core.List.{_∷_};
 ghost use lib.IntN.{natAbs};

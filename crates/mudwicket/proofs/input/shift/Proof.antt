@@ -1,6 +1,6 @@
 -- `mudwicket::input::shift` stays in range and ends. The measure is what is left to move.
 use Prim.Native.Nat.{_≤_, _-_}
-use mathlib.Core.Path.{_≡_, refl}
+use mathlib.Core.Path.{_≡_}
 use native.Mathlib.Omega.{arith}
 use lib.ListN.{length, length-set}
 use Rattle.mudwicket.proofs.input.shift.Statement.{statement}

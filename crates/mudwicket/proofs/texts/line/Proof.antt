@@ -1,11 +1,10 @@
 -- `mudwicket::texts::line` stays in range: both texts stand in the room.
 use borrow.Author.Needs.{needs}
-use Prim.Native.Nat.{ℕ, _≤_, _-_}
-use mathlib.Core.Path.{_≡_, subst}
+use Prim.Native.Nat.{_≤_, _-_}
+use mathlib.Core.Path.{subst}
 use native.Mathlib.Omega.{arith}
-use lib.ListN.{length, take, length-take}
+use lib.ListN.{length, length-take}
 use Rattle.mudwicket.specs.Held.{Kept}
-use Rattle.mudwicket.specs.declared.texts.Request.the-variants.{Show}
 use Rattle.mudwicket.proofs.texts.line.Statement.{statement}
 use Rattle.mudwicket.proofs.texts.line.Tie as tie
 

@@ -1,6 +1,5 @@
 -- `mudwicket::texts::read_request` stays in range: the three words lie one behind the other within the line.
 use borrow.Author.Needs.{needs}
-use Prim.Native.Nat.{ℕ}
 use mathlib.Core.Path.{subst}
 use native.Mathlib.Omega.{arith}
 use lib.ListN.{length}

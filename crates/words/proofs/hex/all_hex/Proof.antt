@@ -1,11 +1,10 @@
 -- `words::hex::all_hex` meets its contract. The invariant: what is left is hex digits exactly when the word is. The measure is what is left.
-use Prim.Native.Nat.{ℕ, _≤_, _<_, _+_, _-_}
-use mathlib.Core.Path.{_≡_, refl, sym, ap, _∙_, subst}
-use mathlib.Core.List.{List, _∷_}
+use Prim.Native.Nat.{_≤_, _-_}
+use mathlib.Core.Path.{refl, sym, subst}
 use mathlib.Core.Bool.{false≢true}
 use native.Mathlib.Omega.{arith}
-use lib.ListN.{length, getD, drop, drop-of-length-le}
-use Rattle.words.specs.Hex.{worthOf, HexDigits}
+use lib.ListN.{length, drop, drop-of-length-le}
+use Rattle.words.specs.Hex.{HexDigits}
 use Rattle.words.proofs.Places.{at-place}
 use Rattle.words.proofs.hex.all_hex.Statement.{statement}
 use Rattle.words.proofs.hex.all_hex.Tie as tie

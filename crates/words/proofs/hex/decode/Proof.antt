@@ -7,7 +7,7 @@ use native.Mathlib.Numerals.{add-one}
 use native.Mathlib.Omega.{arith}
 use lib.ListN.{length, getD, set, length-set}
 use lib.Seq.{paste, paste-zero, paste-suc}
-use Rattle.words.specs.Hex.{worthOf, bytesOf}
+use Rattle.words.specs.Hex.{bytesOf}
 use Rattle.words.specs.HexLaws.{digit-at, byte-at}
 use Rattle.words.proofs.hex.decode.Statement.{statement}
 use Rattle.words.proofs.hex.decode.Tie as tie

@@ -5,7 +5,7 @@ use mathlib.Core.List.{List, [], _∷_}
 use mathlib.Core.Logic.{inl, inr}
 use mathlib.Core.Bool.{false≢true}
 use native.Mathlib.Omega.{arith}
-use lib.ListN.{length, getD, drop, drop-of-length-le}
+use lib.ListN.{length, getD, drop-of-length-le}
 use Rattle.words.specs.Hex.{HexDigits, bytesOf, IsText, Measured}
 use Rattle.words.specs.HexLaws.{bytes-half}
 use Rattle.words.specs.declared.hex.Text.{Text}

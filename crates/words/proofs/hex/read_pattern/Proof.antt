@@ -1,13 +1,12 @@
 -- `words::hex::read_pattern` meets its contract. The invariant: what is left is hex digits exactly when the word is, and the number that it
 -- names behind the value so far is the word's. The measure is what is left of the word.
 use Prim.Native.Nat.{ℕ, _≤_, _<_, _+_, _-_, _*_, _^_}
-use mathlib.Core.Path.{_≡_, refl, sym, ap, _∙_, subst}
-use mathlib.Core.List.{List, [], _∷_}
+use mathlib.Core.Path.{_≡_, sym, ap, _∙_, subst}
 use native.Mathlib.Nat.{pow-suc, pow-le-pow-right}
 use native.Mathlib.Numerals.{add-one}
 use native.Mathlib.Omega.{arith}
-use lib.ListN.{length, getD, drop, drop-of-length-le}
-use Rattle.words.specs.Hex.{worthOf, HexDigits, hexNumber}
+use lib.ListN.{length, drop, drop-of-length-le}
+use Rattle.words.specs.Hex.{HexDigits, hexNumber}
 use Rattle.words.specs.HexLaws.{hexAfter, hex-read}
 use Rattle.words.proofs.Places.{at-place}
 use Rattle.words.proofs.hex.read_pattern.Statement.{statement}

@@ -1,14 +1,14 @@
 -- `words::hex::read_text` meets its contract: what is measured as a text is decoded where the room holds it.
 use Prim.Native.Nat.{ℕ, _≤_, _<_, _*_, _+_}
 use mathlib.Core.Path.{_≡_, refl, ap, ap₂, _∙_, subst}
-use mathlib.Core.List.{List, [], _∷_, _++_}
+use mathlib.Core.List.{List, _++_}
 use mathlib.Core.Logic.{inl, inr}
 use native.Mathlib.Nat.{zero-add}
 use native.Mathlib.Omega.{arith}
 use lib.ListN.{length, take, drop}
 use lib.Seq.{paste, take-length}
-use Rattle.words.specs.Hex.{HexDigits, bytesOf, IsText, Measured}
-use Rattle.words.specs.declared.hex.Text.the-variants.{Bytes, Bad}
+use Rattle.words.specs.Hex.{HexDigits, bytesOf, Measured}
+use Rattle.words.specs.declared.hex.Text.the-variants.{Bytes}
 use borrow.Author.Needs.{needs}
 use Rattle.words.proofs.hex.read_text.Statement.{statement}
 use Rattle.words.proofs.hex.read_text.Tie as tie

@@ -1,13 +1,13 @@
 -- `words::line::read_numbers` meets its contract. The invariant: the words before the place are numbers, and they stand in the room (`Done`).
 -- The measure is what is left of the line, with its end.
-use Prim.Native.Nat.{ℕ, suc, _≤_, _<_, _+_, _-_, min}
+use Prim.Native.Nat.{ℕ, suc, _≤_, _+_, _-_, min}
 use mathlib.Core.Path.{_≡_, refl, sym, ap, _∙_, subst}
 use mathlib.Core.List.{List, [], _∷_}
 use borrow.Author.Needs.{needs}
 use native.Mathlib.Decide.{ℕ-discrete}
 use native.Mathlib.Omega.{arith}
 use lib.IntN.{ℤ}
-use lib.ListN.{length, take, drop, set, length-set, length-drop, drop-of-length-le}
+use lib.ListN.{length, take, drop, length-set, length-drop, drop-of-length-le}
 use lib.Seq.{drop-drop}
 use mir.Syntax.{w32}
 use mir.Val.{toZ, ofZ}
@@ -15,11 +15,11 @@ use mir.Facts.{toZ-ofZ}
 use Rattle.ints.specs.Bounds.{fits-in}
 use Rattle.words.specs.Numbers.{Reads}
 use Rattle.words.specs.NumberLaws.{empty-bad}
-use Rattle.words.specs.Words.{firstWord, wordsOf, Stuck}
+use Rattle.words.specs.Words.{firstWord, wordsOf}
 use Rattle.words.specs.WordLaws.{first-le, first-take, words-last, words-next}
 use Rattle.words.specs.ReadLaws.{Done, done-none, done-length, done-bad, done-full, done-more, done-last}
 use Rattle.words.specs.declared.number.Number.{Number}
-use Rattle.words.specs.declared.number.Number.the-variants.{Value, Bad}
+use Rattle.words.specs.declared.number.Number.the-variants.{Value}
 use Rattle.words.proofs.line.read_numbers.Statement.{statement}
 use Rattle.words.proofs.line.read_numbers.Tie as tie
 

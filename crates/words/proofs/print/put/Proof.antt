@@ -5,7 +5,7 @@ use mathlib.Core.Path.{_≡_, refl, sym, ap, _∙_}
 use native.Mathlib.Numerals.{add-one}
 use native.Mathlib.Omega.{arith}
 use lib.ListN.{length, getD, take, drop, set, length-set}
-use lib.Seq.{paste, paste-zero, paste-suc, length-paste, take-length}
+use lib.Seq.{paste, paste-zero, paste-suc, take-length}
 use Rattle.words.specs.Print.{withAt, Put}
 use Rattle.words.proofs.print.put.Statement.{statement}
 use Rattle.words.proofs.print.put.Tie as tie
