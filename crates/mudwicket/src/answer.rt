@@ -1,0 +1,45 @@
+// From a line to its command. A line of no bytes and a line that begins with `#` are passed over; one that is no command gets a `?`.
+// A command is a variant of `Command`, its word in `command_of`, and the arm of `answer` that calls its function.
+use crate::input;
+use crate::out;
+use crate::texts;
+
+enum Command {
+    Length,
+    Line,
+    Unknown,
+}
+
+// Puts the answer to a line, and hands back the next place.
+pub fn answer(line: &[u8], out: &mut [u8], at: usize, texts: &mut [u8]) -> usize {
+    if input::MOST < line.len() {
+        return out::wrong(out, at);
+    }
+    if is_passed_over(line) {
+        return at;
+    }
+    let end = words::word_end(line, 0);
+    match command_of(&line[0..end]) {
+        Command::Length => texts::length(line, end, out, at),
+        Command::Line => texts::line(line, end, texts, out, at),
+        Command::Unknown => out::wrong(out, at),
+    }
+}
+
+fn is_passed_over(line: &[u8]) -> bool {
+    if line.len() == 0 {
+        return true;
+    }
+    line[0] == b'#'
+}
+
+// The command that a line's first word names.
+fn command_of(word: &[u8]) -> Command {
+    if check::same(word, b"length") {
+        return Command::Length;
+    }
+    if check::same(word, b"line") {
+        return Command::Line;
+    }
+    Command::Unknown
+}
