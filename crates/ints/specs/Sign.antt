@@ -77,12 +77,6 @@ lex-assoc (pos zero) v w = refl
 lex-assoc (pos (suc n)) v w = refl
 lex-assoc (negsuc n) v w = refl
 
-pub lex-nil : (u : ℤ) → lex u (pos 0) ≡ u
-unfolding lex
-lex-nil (pos zero) = refl
-lex-nil (pos (suc n)) = refl
-lex-nil (negsuc n) = refl
-
 pub same-lex : {t u t′ u′ : ℤ} → Same t u → Same t′ u′ → Same (lex t t′) (lex u u′)
 same-lex {t} {u} {t′} {u′} a b = ⊎-elim
     (λ k. same-trans (same-eq (lex-other t′ (lt-other (a .down k)))) (same-trans a (same-eq (sym (lex-other u′ (lt-other k))))))

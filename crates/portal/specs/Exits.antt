@@ -31,10 +31,6 @@ x1 {p} q n u s v = record { all = λ y m. ≤ℤ-<ℤ-trans (le-comb (nn-mul (lt
     lift : (k a b c : ℤ) → (k *ℤ b +ℤ c) -ℤ (k *ℤ a +ℤ c) ≡ k *ℤ (b -ℤ a)
     lift k a b c = by-ring (k ∷ a ∷ b ∷ c ∷ []) (search sides depth 9) refl
 
--- strict
-pub strict-apart : {D : Vec3 → Type 0} {n p : Vec3} → Support D n p → dot n p <ℤ pos 0 → (y : Vec3) → D y → dot n y <ℤ pos 0
-strict-apart s v y m = ≤ℤ-<ℤ-trans (s .most y m) v
-
 -- a sum of four products that is 0: weights of p positive, the others not negative, values not positive. Then that of p is not negative
 pub no-balance : (w0 w1 w2 w3 t u v w : ℤ) → pos 0 <ℤ w0 → pos 0 ≤ℤ w1 → pos 0 ≤ℤ w2 → pos 0 ≤ℤ w3
     → t <ℤ pos 0 → u ≤ℤ pos 0 → v ≤ℤ pos 0 → w ≤ℤ pos 0 → w0 *ℤ t +ℤ w1 *ℤ u +ℤ w2 *ℤ v +ℤ w3 *ℤ w ≡ pos 0 → ⊥

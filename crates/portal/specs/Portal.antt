@@ -9,6 +9,7 @@ use Rattle.ints.specs.Quote.{sides, by-ring}
 use Rattle.ints.specs.Order.{le-or-lt, lt-comb, le-comb, nn-add, nn-mul, pos-add, pos-mul, pos-factor, lt→≤ℤ, <ℤ-neg, ≤ℤ-neg, zero-product}
 use Rattle.space.specs.declared.Vec3.{Vec3}
 use Rattle.space.specs.Vectors.{dot, cross, minus, plus, scale, det, normal, env1}
+use Rattle.space.specs.Identities.{normal-along, progress}
 
 -- how far the portal is from the origin, and from the ray, each times something positive: h and s
 abbrev pub depth : Vec3 → Vec3 → Vec3 → ℤ
@@ -25,26 +26,10 @@ pub record Inv (a b c r : Vec3) : Type 0 where
   pub g3 : pos 0 <ℤ negℤ (det a b r)
 
 -- ---- A1
-pub a1 : (a b c y : Vec3) → dot (normal a b c) y ≡ det y b c +ℤ det a y c +ℤ det a b y
-a1 a b c y = by-ring (env1 a (env1 b (env1 c (env1 y [])))) (search sides depth 40) refl
-
-pub a1-first : (a b c : Vec3) → dot (normal a b c) a ≡ det a b c
-a1-first a b c = by-ring (env1 a (env1 b (env1 c []))) (search sides depth 40) refl
-
-pub a1-second : (a b c : Vec3) → dot (normal a b c) b ≡ det a b c
-a1-second a b c = by-ring (env1 a (env1 b (env1 c []))) (search sides depth 40) refl
-
-pub a1-third : (a b c : Vec3) → dot (normal a b c) c ≡ det a b c
-a1-third a b c = by-ring (env1 a (env1 b (env1 c []))) (search sides depth 40) refl
-
 pub a1-ray : (a b c r : Vec3) → reach a b c r ≡ negℤ (det r b c) +ℤ negℤ (det a r c) +ℤ negℤ (det a b r)
 a1-ray a b c r = by-ring (env1 a (env1 b (env1 c (env1 r [])))) (search sides depth 40) refl
 
--- ---- A2, Cramer: h p + D1 a + D2 b + D3 c = 0, along any d; and its coordinates
-pub a2 : (a b c p d : Vec3) → depth a b c *ℤ dot d p +ℤ det p b c *ℤ dot d a +ℤ det a p c *ℤ dot d b +ℤ det a b p *ℤ dot d c ≡ pos 0
-a2 a b c p d = by-ring (env1 a (env1 b (env1 c (env1 p (env1 d []))))) (search sides depth 40) refl
-
--- the sum of four weighted vectors is zero
+-- ---- A2, Cramer: h p + D1 a + D2 b + D3 c = 0. The sum of four weighted vectors is zero
 pub record ZeroSum (w0 w1 w2 w3 : ℤ) (p a b c : Vec3) : Type 0 where
   pub bx : w0 *ℤ p .x +ℤ w1 *ℤ a .x +ℤ w2 *ℤ b .x +ℤ w3 *ℤ c .x ≡ pos 0
   pub by : w0 *ℤ p .y +ℤ w1 *ℤ a .y +ℤ w2 *ℤ b .y +ℤ w3 *ℤ c .y ≡ pos 0
@@ -105,7 +90,7 @@ reach-pos {a} {b} {c} {r} i = pos-is (a1-ray a b c r) (pos-add (pos-add (i .g1) 
 
 -- ---- A5: not all three are negative
 pub a5 : (a b c p : Vec3) → pos 0 ≤ℤ dot (normal a b c) p → det p b c <ℤ pos 0 → det a p c <ℤ pos 0 → det a b p <ℤ pos 0 → ⊥
-a5 a b c p v h1 h2 h3 = clashℤ (pos-add (pos-add (<ℤ-neg h1) (lt→≤ℤ (<ℤ-neg h2))) (lt→≤ℤ (<ℤ-neg h3))) (subst (λ z. z ≤ℤ pos 0) (neg-sum (det p b c) (det a p c) (det a b p)) (≤ℤ-neg (subst (λ z. pos 0 ≤ℤ z) (a1 a b c p) v)))
+a5 a b c p v h1 h2 h3 = clashℤ (pos-add (pos-add (<ℤ-neg h1) (lt→≤ℤ (<ℤ-neg h2))) (lt→≤ℤ (<ℤ-neg h3))) (subst (λ z. z ≤ℤ pos 0) (neg-sum (det p b c) (det a p c) (det a b p)) (≤ℤ-neg (subst (λ z. pos 0 ≤ℤ z) (normal-along a b c p) v)))
   where
     neg-sum : (u v w : ℤ) → negℤ (u +ℤ v +ℤ w) ≡ negℤ u +ℤ negℤ v +ℤ negℤ w
     neg-sum u v w = by-ring (u ∷ v ∷ w ∷ []) (search sides depth 9) refl
@@ -114,16 +99,10 @@ a5 a b c p v h1 h2 h3 = clashℤ (pos-add (pos-add (<ℤ-neg h1) (lt→≤ℤ (<
 pub b1-second : (p c r : Vec3) → negℤ (det p r c) ≡ dot (cross p c) r
 b1-second p c r = by-ring (env1 p (env1 c (env1 r []))) (search sides depth 40) refl
 
-pub b1-third : (p b r : Vec3) → negℤ (det p b r) ≡ negℤ (dot (cross p b) r)
-b1-third p b r = refl
-
 pub b1-first : (p c r : Vec3) → det r p c ≡ dot (cross p c) r
 b1-first p c r = by-ring (env1 p (env1 c (env1 r []))) (search sides depth 40) refl
 
--- progress: s' h - s h' = G1 (n·p + h), and the same for the second corner
-pub b2-first : (a b c p r : Vec3) → reach p b c r *ℤ depth a b c -ℤ reach a b c r *ℤ depth p b c ≡ negℤ (det r b c) *ℤ (depth a b c +ℤ dot (normal a b c) p)
-b2-first a b c p r = by-ring (env1 a (env1 b (env1 c (env1 p (env1 r []))))) (search sides depth 40) refl
-
+-- progress, where p takes the place of the second corner
 pub b2-second : (a b c p r : Vec3) → reach a p c r *ℤ depth a b c -ℤ reach a b c r *ℤ depth a p c ≡ negℤ (det a r c) *ℤ (depth a b c +ℤ dot (normal a b c) p)
 b2-second a b c p r = by-ring (env1 a (env1 b (env1 c (env1 p (env1 r []))))) (search sides depth 40) refl
 
@@ -157,7 +136,7 @@ b3 {a} {b} {c} {r} p i v d1 d3 t = record {
     g2 = pos-is (b1-second p c r) (⊎-elim second (λ h. h) t);
     g3 = third;
   };
-  more = lt-comb (pos-mul (i .g1) (pos-add (i .hp) v)) (b2-first a b c p r);
+  more = lt-comb (pos-mul (i .g1) (pos-add (i .hp) v)) (progress a b c p r);
 }
   where
     second : pos 0 ≤ℤ det a p c → pos 0 <ℤ dot (cross p c) r

@@ -48,13 +48,6 @@ pub k1-sign : (k : ℤ) (q p b c : Vec3) → pos 0 <ℤ k → Under k (side-low 
 k1-sign k q p b c h u =
     same-trans (same-eq (k1 k q p b c)) (same-trans (same-mul (k *ℤ k) (k *ℤ dot (cross b c) p +ℤ side-low q p b c) (pos-mul h h)) (l2 k (dot (cross b c) p) (side-low q p b c) u))
 
--- the second of a side is a normal's dot, and the first a determinant
-pub side-normal : (q p b c : Vec3) → side-low q p b c ≡ dot (normal p b c) q
-side-normal q p b c = by-ring (env1 q (env1 p (env1 b (env1 c [])))) (search sides depth 40) refl
-
-pub side-det : (p b c : Vec3) → dot (cross b c) p ≡ det p b c
-side-det p b c = by-ring (env1 p (env1 b (env1 c []))) (search sides depth 40) refl
-
 -- ---- K2
 pub k2-normal : (k : ℤ) (q a b c y : Vec3) → dot (normal (shift k q a) (shift k q b) (shift k q c)) y ≡ k *ℤ k *ℤ dot (normal a b c) y
 k2-normal k q a b c y = by-ring (k ∷ env1 q (env1 a (env1 b (env1 c (env1 y []))))) (search sides depth 40) refl

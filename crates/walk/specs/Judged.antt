@@ -339,9 +339,6 @@ pub record Tells (b : Bool) (Well Applies : Type 0) : Type 0 where
   pub yes : b ≡ true → Well
   pub no : b ≡ false → Applies
 
-pub tells-yes : {b : Bool} {P C : Type 0} → b ≡ true → P → Tells b P C
-tells-yes e h = record { yes = λ _. h; no = λ f. absurd (subst T (sym e ∙ f) tt) }
-
 pub tells-no : {b : Bool} {P C : Type 0} → b ≡ false → C → Tells b P C
 tells-no e h = record { yes = λ t. absurd (subst T (sym t ∙ e) tt); no = λ _. h }
 
