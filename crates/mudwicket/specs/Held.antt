@@ -4,6 +4,8 @@ use Prim.Native.Nat.{ℕ, _≤_, _<_}
 use Rattle.mudwicket.specs.declared.input.State.{State}
 use Rattle.mudwicket.specs.declared.parts.Ends.{Ends}
 use Rattle.mudwicket.specs.declared.parts.Ends.the-variants.{At, Bad}
+use Rattle.mudwicket.specs.declared.parts.Index.{Index}
+use Rattle.mudwicket.specs.declared.parts.Index.the-variants.{At as IndexAt, Bad as NoIndex}
 use Rattle.mudwicket.specs.declared.texts.Request.{Request}
 use Rattle.mudwicket.specs.declared.texts.Request.the-variants.{Show, Bad as NoRequest}
 
@@ -24,3 +26,8 @@ Parted start n Bad = Unit {0}
 abbrev pub Kept : ℕ → Request → Type 0
 Kept n (Show k first both) = (first ≤ both) × (both ≤ n)
 Kept n NoRequest = Unit {0}
+
+-- of n numbers: a list whose count stands at `start`, and ends behind it
+abbrev pub Behind : ℕ → ℕ → Index → Type 0
+Behind start n (IndexAt end) = (start < end) × (end ≤ n)
+Behind start n NoIndex = Unit {0}

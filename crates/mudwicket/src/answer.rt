@@ -1,17 +1,25 @@
 // From a line to its command. A line of no bytes and a line that begins with `#` are passed over; one that is no command gets a `?`.
 // A command is a variant of `Command`, its word in `command_of`, and the arm of `answer` that calls its function.
 use crate::input;
+use crate::lists;
 use crate::out;
 use crate::texts;
 
 enum Command {
     Length,
     Line,
+    Lists,
     Unknown,
 }
 
 // Puts the answer to a line, and hands back the next place.
-pub fn answer(line: &[u8], out: &mut [u8], at: usize, texts: &mut [u8]) -> usize {
+pub fn answer(
+    line: &[u8],
+    out: &mut [u8],
+    at: usize,
+    texts: &mut [u8],
+    numbers: &mut [i32],
+) -> usize {
     if input::MOST < line.len() {
         return out::wrong(out, at);
     }
@@ -22,6 +30,7 @@ pub fn answer(line: &[u8], out: &mut [u8], at: usize, texts: &mut [u8]) -> usize
     match command_of(&line[0..end]) {
         Command::Length => texts::length(line, end, out, at),
         Command::Line => texts::line(line, end, texts, out, at),
+        Command::Lists => lists::lists(line, end, numbers, out, at),
         Command::Unknown => out::wrong(out, at),
     }
 }
@@ -40,6 +49,9 @@ fn command_of(word: &[u8]) -> Command {
     }
     if check::same(word, b"line") {
         return Command::Line;
+    }
+    if check::same(word, b"lists") {
+        return Command::Lists;
     }
     Command::Unknown
 }

@@ -55,6 +55,14 @@ pub fn next_number(out: &mut [u8], at: usize, n: i64) -> usize {
     number(out, next, n)
 }
 
+// One space, and a count in decimal.
+pub fn next_count(out: &mut [u8], at: usize, n: usize) -> usize {
+    let mut digits = [0u8; 20];
+    let k = io::decimal(n as u64, &mut digits);
+    let next = word(out, at, b" ");
+    word(out, next, &digits[..k])
+}
+
 // A number in hex, of at least `width` digits.
 pub fn hex(out: &mut [u8], at: usize, n: u32, width: usize) -> usize {
     let next = ready(out, at);
