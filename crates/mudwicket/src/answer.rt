@@ -1,17 +1,30 @@
 // From a line to its command. A line of no bytes and a line that begins with `#` are passed over; one that is no command gets a `?`.
 // A command is a variant of `Command`, its word in `command_of`, and the arm of `answer` that calls its function.
+use crate::floats;
 use crate::input;
+use crate::lent;
 use crate::out;
 use crate::texts;
 
 enum Command {
     Length,
     Line,
+    Scan,
+    Show,
+    Blank,
+    Room,
     Unknown,
 }
 
 // Puts the answer to a line, and hands back the next place.
-pub fn answer(line: &[u8], out: &mut [u8], at: usize, texts: &mut [u8]) -> usize {
+pub fn answer(
+    line: &[u8],
+    out: &mut [u8],
+    at: usize,
+    texts: &mut [u8],
+    numbers: &mut [i32],
+    lent: &mut [usize; 1],
+) -> usize {
     if input::MOST < line.len() {
         return out::wrong(out, at);
     }
@@ -22,6 +35,10 @@ pub fn answer(line: &[u8], out: &mut [u8], at: usize, texts: &mut [u8]) -> usize
     match command_of(&line[0..end]) {
         Command::Length => texts::length(line, end, out, at),
         Command::Line => texts::line(line, end, texts, out, at),
+        Command::Scan => floats::scan(line, end, out, at),
+        Command::Show => floats::show(line, end, out, at),
+        Command::Blank => floats::blank(line, end, lent[lent::ROOM], numbers, out, at),
+        Command::Room => lent::room(line, end, lent, out, at),
         Command::Unknown => out::wrong(out, at),
     }
 }
@@ -40,6 +57,18 @@ fn command_of(word: &[u8]) -> Command {
     }
     if check::same(word, b"line") {
         return Command::Line;
+    }
+    if check::same(word, b"scan") {
+        return Command::Scan;
+    }
+    if check::same(word, b"show") {
+        return Command::Show;
+    }
+    if check::same(word, b"blank") {
+        return Command::Blank;
+    }
+    if check::same(word, b"room") {
+        return Command::Room;
     }
     Command::Unknown
 }
