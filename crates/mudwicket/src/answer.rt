@@ -1,6 +1,8 @@
 // From a line to its command. A line of no bytes and a line that begins with `#` are passed over; one that is no command gets a `?`.
 // A command is a variant of `Command`, its word in `command_of`, and the arm of `answer` that calls its function.
+use crate::floats;
 use crate::input;
+use crate::lent;
 use crate::lists;
 use crate::out;
 use crate::texts;
@@ -9,6 +11,10 @@ enum Command {
     Length,
     Line,
     Lists,
+    Scan,
+    Show,
+    Blank,
+    Room,
     Unknown,
 }
 
@@ -19,6 +25,7 @@ pub fn answer(
     at: usize,
     texts: &mut [u8],
     numbers: &mut [i32],
+    lent: &mut [usize; 1],
 ) -> usize {
     if input::MOST < line.len() {
         return out::wrong(out, at);
@@ -31,6 +38,10 @@ pub fn answer(
         Command::Length => texts::length(line, end, out, at),
         Command::Line => texts::line(line, end, texts, out, at),
         Command::Lists => lists::lists(line, end, numbers, out, at),
+        Command::Scan => floats::scan(line, end, out, at),
+        Command::Show => floats::show(line, end, out, at),
+        Command::Blank => floats::blank(line, end, lent[lent::ROOM], numbers, out, at),
+        Command::Room => lent::room(line, end, lent, out, at),
         Command::Unknown => out::wrong(out, at),
     }
 }
@@ -52,6 +63,18 @@ fn command_of(word: &[u8]) -> Command {
     }
     if check::same(word, b"lists") {
         return Command::Lists;
+    }
+    if check::same(word, b"scan") {
+        return Command::Scan;
+    }
+    if check::same(word, b"show") {
+        return Command::Show;
+    }
+    if check::same(word, b"blank") {
+        return Command::Blank;
+    }
+    if check::same(word, b"room") {
+        return Command::Room;
     }
     Command::Unknown
 }

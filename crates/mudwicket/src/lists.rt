@@ -1,6 +1,5 @@
 // The command on two lent lists of placed corners, and the answer to the pair question, which it prints.
 // `end` is where the command's own word ends.
-ghost use mathlib.Core.Path.{_≡_};
 ghost use lib.ListN.{length};
 ghost use Rattle.mudwicket.specs.Held.{Behind};
 use crate::out;
@@ -10,13 +9,6 @@ use crate::parts::not_negative;
 
 // An answer carries the first `count` of this many pairs.
 const MOST_PAIRS: usize = 4;
-
-// Room for the numbers of a `lists`: each takes a digit and a space of a line that has no more than two bytes for each cell.
-pub fn buffer() -> [i32; 8192]
-    ensures { λ r. ⌜ 8192 ≡ length r ⌝ }
-{
-    [0; 8192]
-}
 
 // `lists N n .. M n ..`: every word is a number, and each of the two counts is kept.
 pub fn lists(line: &[u8], end: usize, room: &mut [i32], out: &mut [u8], at: usize) -> usize {

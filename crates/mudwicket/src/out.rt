@@ -74,6 +74,11 @@ pub fn end(out: &mut [u8], at: usize) -> usize {
     word(out, at, b"\n")
 }
 
+// The answer of a command that is done and has nothing to tell.
+pub fn done(out: &mut [u8], at: usize) -> usize {
+    word(out, at, b"0\n")
+}
+
 // The answer to a line that is no command.
 pub fn wrong(out: &mut [u8], at: usize) -> usize {
     word(out, at, b"?\n")

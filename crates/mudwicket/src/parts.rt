@@ -1,4 +1,4 @@
-// The parts of a line: where the words behind the command's own begin, exactly three words, and a number that is not negative.
+// The parts of a line: where the words behind the command's own begin, exactly one or three words, and a number that is not negative.
 // `end` is where the command's own word ends.
 ghost use Prim.Native.Nat.{_<_};
 ghost use lib.ListN.{length};
@@ -38,6 +38,22 @@ pub fn three_words(line: &[u8], start: usize) -> Ends
         return Ends::Bad;
     }
     Ends::At(first, second)
+}
+
+// The one word behind a command's own, if it is a number.
+pub fn only_number(line: &[u8], end: usize) -> words::Number {
+    if end < line.len() {
+        return words::read_number(&line[end + 1..]);
+    }
+    words::Number::Bad
+}
+
+// The one word behind a command's own, if it is a number and not negative.
+pub fn only_index(line: &[u8], end: usize) -> Index {
+    match only_number(line, end) {
+        words::Number::Value(v) => not_negative(v),
+        words::Number::Bad => Index::Bad,
+    }
 }
 
 // A word that is a number and not negative.
