@@ -138,28 +138,28 @@ fn wide(v: u8) -> usize
 }
 
 // The arrays' lengths, of which their types say nothing to a contract.
-pub fn sized_counts(counts: &[u8; limits::SHAPES]) -> usize
+fn sized_counts(counts: &[u8; limits::SHAPES]) -> usize
     ensures { λ _. ⌜ length (now (counts .entry)) ≡ Limits.shapes ⌝ }
 {
     let all = &counts[..];
     all.len()
 }
 
-pub fn sized_corners(corners: &[i32; limits::CORNER_NUMBERS]) -> usize
+fn sized_corners(corners: &[i32; limits::CORNER_NUMBERS]) -> usize
     ensures { λ _. ⌜ length (now (corners .entry)) ≡ Limits.cornerNumbers ⌝ }
 {
     let all = &corners[..];
     all.len()
 }
 
-pub fn sized_poses(poses: &[u8; limits::POSE_NUMBERS]) -> usize
+fn sized_poses(poses: &[u8; limits::POSE_NUMBERS]) -> usize
     ensures { λ _. ⌜ length (now (poses .entry)) ≡ Limits.poseNumbers ⌝ }
 {
     let all = &poses[..];
     all.len()
 }
 
-pub fn sized_offsets(offsets: &[i32; limits::OFFSET_NUMBERS]) -> usize
+fn sized_offsets(offsets: &[i32; limits::OFFSET_NUMBERS]) -> usize
     ensures { λ _. ⌜ length (now (offsets .entry)) ≡ Limits.offsetNumbers ⌝ }
 {
     let all = &offsets[..];

@@ -1,9 +1,10 @@
 -- THE ANSWER to the pair question on two lent lists of placed corners, as document 01 has it: the refusals, the verdict, what it carries.
 -- No proof stands here but that two answers which are allowed for the same lists have one number and one verdict.
-use mathlib.Core.Path.{_≡_, refl, sym, _∙_, subst}
+use mathlib.Core.Path.{_≡_, sym, ap, _∙_}
 use mathlib.Core.List.{List, [], _∷_}
 use mathlib.Core.Logic.{_⊎_}
 use Prim.Native.Nat.{ℕ, _≤_, _<_}
+use native.Mathlib.Decide.{ℕ-discrete}
 use lib.ListN.{length, take, drop}
 use lib.IntN.{ℤ, pos}
 use Rattle.limits.specs.Limits.{listLength, placedRange, placedReach, directionReach, done}
@@ -61,7 +62,12 @@ pub record Answers (A B : Piece) (r : Answer) : Type 0 where
   pub carries : r .number ≡ done → Carries A B r
 
 -- two answers allowed for the same lists have one number and one verdict; the witnesses may vary
-pub answers-once : {A B : Piece} {q r : Answer} → Answers A B q → Answers A B r → (q .number ≡ r .number) × (q .number ≡ done → q .verdict ≡ r .verdict)
-answers-once {A} {B} a b =
-    let e = lowest-once (refusals A B) (a .refusal) (b .refusal) in
-    (e, λ z. verdict-once (a .carries z .right) (b .carries (sym e ∙ z) .right))
+pub answers-once : {A B : Piece} {q r : Answer} → Answers A B q → Answers A B r → (q .number ≡ r .number) × (q .verdict ≡ r .verdict)
+answers-once {A} {B} {q} {r} a b = (same, go (ℕ-discrete (q .number) done))
+  where
+    same : q .number ≡ r .number
+    same = lowest-once (refusals A B) (a .refusal) (b .refusal)
+
+    go : Dec (q .number ≡ done) → q .verdict ≡ r .verdict
+    go (yes z) = verdict-once (a .carries z .right) (b .carries (sym same ∙ z) .right)
+    go (no f) = ap (λ (x : Answer). x .verdict) (a .zeros f) ∙ sym (ap (λ (x : Answer). x .verdict) (b .zeros (λ z. f (same ∙ z))))
