@@ -21,9 +21,9 @@ use Rattle.portal.specs.Sizes.{bigK, front-under}
 use Rattle.portal.specs.Step.{Setting, Held, Met, left}
 use Rattle.portal.specs.Exits.{Behind, x1}
 use Rattle.portal.specs.Turn.{Ready, Turned, Follows, three}
-use Rattle.walk.specs.declared.Point.{Point}
-use Rattle.walk.specs.declared.Portal.{Portal}
-use Rattle.walk.specs.declared.Ended.{Ended}
+use Rattle.walk.specs.declared.support.Point.{Point}
+use Rattle.walk.specs.declared.route.Portal.{Portal}
+use Rattle.walk.specs.declared.route.Ended.{Ended}
 use Rattle.walk.specs.Points.{Spread, Tagged, Box, Supports, spread-of, spread-upto}
 
 -- where a portal's three points are

@@ -27,9 +27,9 @@ use Rattle.space.specs.Lists.{Placed}
 use Rattle.portal.specs.declared.Three.{Three}
 use Rattle.portal.specs.Flat.{had, vec, ones, Signs, unit, nextAxis, coordinate, turnedRound, Axis, axis, had-plus, f2-plane, f2-line, times-other, Drops, planeRow, drops-plane, lineRow, drops-line, f5-line, f5-some}
 use Rattle.portal.specs.Portal.{det-rot}
-use Rattle.walk.specs.declared.Point.{Point}
-use Rattle.walk.specs.declared.Frame.{Frame}
-use Rattle.walk.specs.declared.Found.{Found}
+use Rattle.walk.specs.declared.support.Point.{Point}
+use Rattle.walk.specs.declared.frame.Frame.{Frame}
+use Rattle.walk.specs.declared.frame.Found.{Found}
 use Rattle.walk.specs.Points.{Spread, Tagged, Box, ones-signs, some-corner, plain-at, corner-upto}
 
 -- ---- a difference of two corners, with their numbers

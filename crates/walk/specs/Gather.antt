@@ -17,8 +17,8 @@ use Rattle.space.specs.declared.Vec3.{Vec3}
 use Rattle.space.specs.declared.Pair.{Pair}
 use Rattle.space.specs.Vectors.{minus, origin}
 use Rattle.space.specs.Verdicts.{Piece, cornerAt, cornerCount, weighted, Fair, Balance}
-use Rattle.walk.specs.declared.Point.{Point}
-use Rattle.walk.specs.declared.Gathered.{Gathered}
+use Rattle.walk.specs.declared.support.Point.{Point}
+use Rattle.walk.specs.declared.gather.Gathered.{Gathered}
 use Rattle.walk.specs.Answers.{noPair, noPairs}
 use Rattle.walk.specs.Points.{Tagged}
 

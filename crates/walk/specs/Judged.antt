@@ -31,11 +31,11 @@ use Rattle.portal.specs.Sizes.{bigK, posK, beam, front-under, start, start-turn
 use Rattle.portal.specs.Step.{Setting, Held, Met}
 use Rattle.portal.specs.Exits.{Behind, sum3, w1, w2, wall-some}
 use Rattle.portal.specs.Flat.{Drops, f4}
-use Rattle.walk.specs.declared.Point.{Point}
-use Rattle.walk.specs.declared.Portal.{Portal}
-use Rattle.walk.specs.declared.Ended.{Ended}
-use Rattle.walk.specs.declared.Frame.{Frame}
-use Rattle.walk.specs.declared.Gathered.{Gathered}
+use Rattle.walk.specs.declared.support.Point.{Point}
+use Rattle.walk.specs.declared.route.Portal.{Portal}
+use Rattle.walk.specs.declared.route.Ended.{Ended}
+use Rattle.walk.specs.declared.frame.Frame.{Frame}
+use Rattle.walk.specs.declared.gather.Gathered.{Gathered}
 use Rattle.walk.specs.declared.Answer.{Answer}
 use Rattle.walk.specs.Answers.{noPairs, nothing, BadLength, OutOfReach, Carries, Answers}
 use Rattle.walk.specs.Points.{Spread, Tagged, spread-of, below-of, not-above-of, walled-by}

@@ -19,7 +19,7 @@ use Rattle.space.specs.Verdicts.{Piece, cornerCount, cornerAt, Below, NotAbove}
 use Rattle.space.specs.Lists.{LengthFits, InReach, Placed}
 use Rattle.portal.specs.Flat.{had, vec, ones, Sign, Signs}
 use Rattle.portal.specs.Exits.{Support}
-use Rattle.walk.specs.declared.Point.{Point}
+use Rattle.walk.specs.declared.support.Point.{Point}
 
 -- y is a − b + σ∘g
 pub record Spread (A B : Piece) (g y : Vec3) : Type 0 where
