@@ -1,3 +1,5 @@
+pub mod CommandLaws
+pub mod Commands
 pub mod Desk
 pub mod OrderLaws
 pub mod PutLaws
