@@ -2,6 +2,8 @@
 // Every command and question first tests that the desk is in order; a refusal is given before anything is written.
 pub mod contacts;
 pub mod order;
+pub mod remove;
+pub mod renew;
 pub mod row;
 pub mod start;
 

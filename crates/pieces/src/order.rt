@@ -7,7 +7,7 @@ ghost use lib.ListN.{length};
 ghost use Rattle.limits.specs.Limits;
 ghost use Rattle.limits.specs.Decides.{Decides};
 ghost use Rattle.rows.specs.Rows.{Taken};
-ghost use Rattle.pieces.specs.Pieces.{storeOf, Loaded, ShapesInOrder, PlaceInOrder, PlacesInOrder, PiecesInOrder};
+ghost use Rattle.pieces.specs.Pieces.{storeOf, Loaded, ShapesInOrder, PlaceInOrder, PlacesInOrder, PiecesInOrder, Sized};
 ghost use Rattle.pieces.specs.OrderTest.{Near, ShapeInOrder, PlaceKept};
 use rows::is_taken;
 use space::in_reach;
@@ -138,6 +138,20 @@ fn wide(v: u8) -> usize
 }
 
 // The arrays' lengths, of which their types say nothing to a contract.
+pub fn sized_store(
+    counts: &[u8; limits::SHAPES],
+    corners: &[i32; limits::CORNER_NUMBERS],
+    poses: &[u8; limits::POSE_NUMBERS],
+    offsets: &[i32; limits::OFFSET_NUMBERS],
+)
+    ensures { λ _. ⌜ Sized (storeOf (now (counts .entry)) (now (corners .entry)) (now (poses .entry)) (now (offsets .entry))) ⌝ }
+{
+    sized_counts(counts);
+    sized_corners(corners);
+    sized_poses(poses);
+    sized_offsets(offsets);
+}
+
 fn sized_counts(counts: &[u8; limits::SHAPES]) -> usize
     ensures { λ _. ⌜ length (now (counts .entry)) ≡ Limits.shapes ⌝ }
 {
