@@ -1,33 +1,63 @@
 -- The laws of the commands: what each way out of a function has kept or made, that a started desk is in order, and that an answer is the only one.
 -- Witnesses apart, two exits and answers that a command's record allows for the same entry are equal, to the last cell.
-use mathlib.Core.Path.{_≡_, refl, sym, ap, _∙_}
+use mathlib.Core.Path.{_≡_, refl, sym, ap, _∙_, subst}
 use mathlib.Core.List.{List, [], _∷_}
 use mathlib.Core.Logic.{inl, inr}
 use Prim.Native.Nat.{ℕ, _+_, _*_, _<_, _≤_}
 use native.Mathlib.Omega.{arith}
-use lib.IntN.{ℤ, pos}
+use lib.IntN.{ℤ, pos, negsuc, natAbs}
+use lib.Signed.{_≤ℤ_, _<ℤ_, clashℤ}
 use lib.ListN.{length, getD, replicate, getD-replicate}
+use Rattle.ints.specs.Order.{nn-pos}
 use Rattle.limits.specs.Limits
-use Rattle.limits.specs.Lowest.{lowest-once}
-use Rattle.rows.specs.Rows.{Lists}
-use Rattle.rows.specs.Counting.{zero-at}
+use Rattle.limits.specs.Lowest.{Refusal, Lowest, lowest-once}
+use Rattle.rows.specs.Rows.{Lists, BookInOrder}
+use Rattle.rows.specs.Counting.{zero-at, book-once}
+use Rattle.rows.specs.Changes.{cleared-once}
 use Rattle.rows.specs.Handling.{rows-started, book-started}
 use Rattle.rows.specs.declared.Listed.{Listed}
 use Rattle.rows.specs.declared.Listed.the-variants.{Rows, Refused}
-use Rattle.marks.specs.Buffer.{none-in-place-marks}
-use Rattle.pieces.specs.Pieces.{axesOf}
+use Rattle.marks.specs.Marks.{InPlaceMarks}
+use Rattle.marks.specs.Buffer.{none-in-place-marks, one-buffer}
+use Rattle.pieces.specs.Pieces.{Store, axesOf}
+use Rattle.pieces.specs.Store.{ranged}
+use Rattle.desk.specs.Handled.{Emptied}
 use Rattle.desk.specs.Desk.{Desk, deskOf, InOrder}
-use Rattle.desk.specs.Commands.{freshDesk, startRefusals, Started, contactRefusals, ListsContacts}
+use Rattle.desk.specs.Commands.{Commanded, Numbered, freshDesk, startRefusals, Started, removeRefusals, Removed, contactRefusals, ListsContacts}
 use Rattle.desk.specs.declared.Outcome.{Outcome}
 use Rattle.desk.specs.declared.Outcome.the-variants as outcome
 
+-- ---- every command
+pub refuses : {l : List Refusal} {Accepted : ℕ → Type 0} {d : Desk} {n : ℕ} → Lowest l n → 0 < n → Commanded l Accepted d d (outcome.Refused n)
+refuses h k = record { refusal = h; kept = λ _. refl; done = λ z. absurd (omega arith); named = k }
+
+pub accepts : {l : List Refusal} {Accepted : ℕ → Type 0} {d after : Desk} {n : ℕ} → Lowest l 0 → Accepted n → Commanded l Accepted d after (outcome.Done n)
+accepts h k = record { refusal = h; kept = λ z. absurd (omega arith); done = λ _. k; named = tt }
+
+-- where an accepted command allows one desk and one count, it allows one desk and one answer
+module _ (l : List Refusal) {A B : ℕ → Type 0} {d a b : Desk} (one : (m n : ℕ) → A m → B n → (a ≡ b) × (m ≡ n)) where
+  pub commanded-once : (q r : Outcome) → Commanded l A d a q → Commanded l B d b r → (a ≡ b) × (q ≡ r)
+  commanded-once (outcome.Done m) (outcome.Done n) p q = let e = one m n (p .done refl) (q .done refl) in (e .0, ap outcome.Done (e .1))
+  commanded-once (outcome.Done m) (outcome.Refused n) p q = absurd (omega (arith, q .named, lowest-once l {m = 0} {n = n} (p .refusal) (q .refusal)))
+  commanded-once (outcome.Refused m) (outcome.Done n) p q = absurd (omega (arith, p .named, lowest-once l {m = m} {n = 0} (p .refusal) (q .refusal)))
+  commanded-once (outcome.Refused m) (outcome.Refused n) p q = (p .kept (p .named) ∙ sym (q .kept (q .named)), ap outcome.Refused (lowest-once l {m = m} {n = n} (p .refusal) (q .refusal)))
+
+-- ---- numbers that arrive
+pub record Indexed (n : ℕ) (z : ℤ) (i : ℕ) : Type 0 where
+  pub yes : i < n → Numbered n z × (i ≡ natAbs z)
+  pub no : n ≤ i → Numbered n z → ⊥
+
+pub below-zero : (n : ℕ) (z : ℤ) → z <ℤ pos 0 → Indexed n z n
+below-zero n z h = record { yes = λ k. absurd (omega arith); no = λ _ k. clashℤ h (subst (λ (y : ℤ). pos 0 ≤ℤ y) (sym (k .natural)) (nn-pos (natAbs z))) }
+
+natural : (z : ℤ) → pos 0 ≤ℤ z → z ≡ pos (natAbs z)
+natural (pos n) h = refl
+natural (negsuc n) h = clashℤ (record { lt = tt }) h
+
+pub from-zero : (n : ℕ) (z : ℤ) → pos 0 ≤ℤ z → Indexed n z (natAbs z)
+from-zero n z h = record { yes = λ k. (record { natural = natural z h; below = k }, refl); no = λ k m. omega (arith, m .below) }
+
 -- ---- starting afresh
-pub started-refused : {d : Desk} → (length (d .marks) ≡ Limits.marks → ⊥) → Started d d (outcome.Refused Limits.disorder)
-started-refused f = record { refusal = inl (f, refl); kept = λ _. refl; fresh = λ z. absurd (omega arith); count = refl; named = omega arith }
-
-pub started-fresh : {d after : Desk} → length (d .marks) ≡ Limits.marks → after ≡ freshDesk → Started d after (outcome.Done 0)
-started-fresh l e = record { refusal = inr (λ f. f l, refl); kept = λ z. absurd (omega arith); fresh = λ _. e; count = refl; named = tt }
-
 pub fresh-is : {counts poses rows book marks : List ℕ} {corners offsets : List ℤ} → counts ≡ replicate Limits.shapes 0 → corners ≡ replicate Limits.cornerNumbers (pos 0) → poses ≡ replicate Limits.poseNumbers 0
     → offsets ≡ replicate Limits.offsetNumbers (pos 0) → rows ≡ replicate Limits.rows Limits.noRow → book ≡ replicate Limits.book 0 → marks ≡ replicate Limits.marks Limits.noMark
     → deskOf counts corners poses offsets rows book marks ≡ freshDesk
@@ -46,10 +76,21 @@ fresh-order = record {
 }
 
 pub started-once : {d a b : Desk} (q r : Outcome) → Started d a q → Started d b r → (a ≡ b) × (q ≡ r)
-started-once (outcome.Done m) (outcome.Done n) p q = (p .fresh refl ∙ sym (q .fresh refl), ap outcome.Done (p .count ∙ sym (q .count)))
-started-once {d} (outcome.Done m) (outcome.Refused n) p q = absurd (omega (arith, q .named, lowest-once (startRefusals d) {m = 0} {n = n} (p .refusal) (q .refusal)))
-started-once {d} (outcome.Refused m) (outcome.Done n) p q = absurd (omega (arith, p .named, lowest-once (startRefusals d) {m = m} {n = 0} (p .refusal) (q .refusal)))
-started-once {d} (outcome.Refused m) (outcome.Refused n) p q = (p .kept (p .named) ∙ sym (q .kept (q .named)), ap outcome.Refused (lowest-once (startRefusals d) {m = m} {n = n} (p .refusal) (q .refusal)))
+started-once {d} = commanded-once (startRefusals d) (λ m n p q. (p .0 ∙ sym (q .0), p .1 ∙ sym (q .1)))
+
+-- ---- removing
+-- two desks in order with the same shapes, places and rows are the same
+pub desk-once : {a b : Desk} → InOrder a → InOrder b → a .store ≡ b .store → a .rows ≡ b .rows → a ≡ b
+desk-once {a} {b} p q s r =
+    let m = one-buffer (axesOf (b .store)) (ranged (q .pieces)) (a .marks) (b .marks) (subst (λ (d : Store). InPlaceMarks (axesOf d) (a .marks)) s (p .marks)) (q .marks) in
+    let k = book-once (subst (λ (l : List ℕ). BookInOrder l (a .book)) r (p .book)) (q .book) in
+    rw (s, r, m, k)
+
+emptied-once : {d a b : Desk} {p : ℕ} → Emptied d p a → Emptied d p b → a ≡ b
+emptied-once e f = desk-once (e .order) (f .order) (e .store ∙ sym (f .store)) (cleared-once (sym (e .rows .size) ∙ e .order .rows .size) (e .rows) (f .rows))
+
+pub removed-once : {d a b : Desk} {place : ℤ} (q r : Outcome) → Removed d place a q → Removed d place b r → (a ≡ b) × (q ≡ r)
+removed-once {d} {place = place} = commanded-once (removeRefusals d place) (λ m n p q. (emptied-once (p .0) (q .0), p .1 ∙ sym (q .1)))
 
 -- ---- the listing
 pub contacts-refused : {d : Desk} {room : List ℕ} → (InOrder d → ⊥) → ListsContacts d room room (Refused Limits.disorder)

@@ -3,13 +3,15 @@
 use mathlib.Core.Path.{_≡_}
 use mathlib.Core.List.{List, [], _∷_, _++_}
 use Prim.Native.Nat.{ℕ, _*_, _<_}
-use lib.IntN.{pos}
+use lib.IntN.{ℤ, pos, natAbs}
 use lib.ListN.{length, drop, replicate}
 use Rattle.limits.specs.Limits
 use Rattle.limits.specs.Lowest.{Refusal, Lowest, _when_}
 use Rattle.rows.specs.Rows as listing
+use Rattle.rows.specs.Rows.{Taken}
 use Rattle.rows.specs.declared.Listed.{Listed}
 use Rattle.desk.specs.Desk.{Desk, deskOf, InOrder}
+use Rattle.desk.specs.Handled.{Emptied}
 use Rattle.desk.specs.declared.Outcome.{Outcome}
 use Rattle.desk.specs.declared.Outcome.the-variants.{Done, Refused}
 
@@ -27,6 +29,19 @@ abbrev pub Named : Outcome → Type 0
 Named (Done n) = Unit {0}
 Named (Refused n) = 0 < n
 
+-- every command: "the lowest number that applies is given, and only where it applies. Every other value in the answer is zero; desk, marks and room
+-- stay as they were." Else what the command is accepted for holds, of its count
+pub record Commanded (l : List Refusal) (Accepted : ℕ → Type 0) (before after : Desk) (r : Outcome) : Type 0 where
+  pub refusal : Lowest l (numberOf r)
+  pub kept : 0 < numberOf r → after ≡ before
+  pub done : numberOf r ≡ 0 → Accepted (countOf r)
+  pub named : Named r
+
+-- ---- numbers that arrive: one of 0 to n − 1
+pub record Numbered (n : ℕ) (z : ℤ) : Type 0 where
+  pub natural : z ≡ pos (natAbs z)
+  pub below : natAbs z < n
+
 -- ---- "Start afresh: no shapes, places or rows, tallies 0, every mark 65,535." Cells that mean nothing are 0 too
 abbrev pub freshDesk : Desk
 freshDesk =
@@ -43,12 +58,15 @@ freshDesk =
 abbrev pub startRefusals : Desk → List Refusal
 startRefusals d = Limits.disorder when (length (d .marks) ≡ Limits.marks → ⊥) ∷ []
 
-pub record Started (before after : Desk) (r : Outcome) : Type 0 where
-  pub refusal : Lowest (startRefusals before) (numberOf r)
-  pub kept : 0 < numberOf r → after ≡ before
-  pub fresh : numberOf r ≡ 0 → after ≡ freshDesk
-  pub count : countOf r ≡ 0
-  pub named : Named r
+abbrev pub Started : Desk → Desk → Outcome → Type 0
+Started before after r = Commanded (startRefusals before) (λ count. (after ≡ freshDesk) × (count ≡ 0)) before after r
+
+-- ---- "Remove": 1, 7 "a place number not 0 to 63", 9 "a place is empty"
+abbrev pub removeRefusals : Desk → ℤ → List Refusal
+removeRefusals d place = Limits.disorder when (InOrder d → ⊥) ∷ Limits.placeNumber when (Numbered Limits.places place → ⊥) ∷ Limits.placeEmpty when (Taken (d .store .poses) (natAbs place) → ⊥) ∷ []
+
+abbrev pub Removed : Desk → ℤ → Desk → Outcome → Type 0
+Removed before place after r = Commanded (removeRefusals before place) (λ count. Emptied before (natAbs place) after × (count ≡ 0)) before after r
 
 -- ---- "List contacts". 1: "the desk, or the length of its marks buffer, is not in order"; then what the listing itself refuses
 abbrev pub contactRefusals : Desk → List ℕ → List Refusal

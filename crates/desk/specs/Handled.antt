@@ -1,6 +1,6 @@
 -- What a handled place leaves: its marks renewed, its rows right or gone, and a desk in order.
 -- These are the parts of which the commands' records are made; the laws by which the desk stays in order stand beside them.
-use mathlib.Core.Path.{_≡_, refl}
+use mathlib.Core.Path.{_≡_, refl, subst}
 use mathlib.Core.List.{List}
 use Prim.Native.Nat.{ℕ, _<_}
 use Rattle.limits.specs.Limits
@@ -26,6 +26,9 @@ pub record Emptied (before : Desk) (p : ℕ) (after : Desk) : Type 0 where
   pub store : after .store ≡ emptiedAt (before .store) p
   pub rows : Cleared p (before .rows) (after .rows)
   pub order : InOrder after
+
+pub emptied-at : {d after : Desk} {p q : ℕ} → p ≡ q → Emptied d p after → Emptied d q after
+emptied-at {d} {after} e h = subst (λ (p : ℕ). Emptied d p after) e h
 
 pub emptied : (d : Desk) (p : ℕ) {rows book marks : List ℕ} → Sized (d .store) → p < Limits.places → InOrder d → Cleared p (d .rows) rows → BookInOrder rows book → Renewed (axesOf (emptiedAt (d .store) p)) p (d .marks) marks
     → Emptied d p (record { store = emptiedAt (d .store) p; rows = rows; book = book; marks = marks })

@@ -1,6 +1,7 @@
 // The desk: load, place, move, remove, ask and list, over state that the caller lends.
 // Every command and question first tests that the desk is in order; a refusal is given before anything is written.
 pub mod contacts;
+pub mod number;
 pub mod order;
 pub mod remove;
 pub mod renew;

@@ -4,9 +4,14 @@ ghost use Prim.Native.Nat.{_<_};
 ghost use Rattle.limits.specs.Limits;
 ghost use Rattle.desk.specs.Desk.{deskOf, InOrder};
 ghost use Rattle.desk.specs.Handled.{Emptied};
+ghost use Rattle.desk.specs.Commands.{Removed};
+use crate::Outcome;
+use crate::number::index_of;
+use crate::order::desk_in_order;
 use crate::renew::renew_marks;
 use pieces::order::sized_store;
 use rows::clear_place;
+use rows::is_taken;
 use rows::recount;
 
 // A place of a desk in order emptied.
@@ -28,4 +33,31 @@ fn empty_place(
     clear_place(rows, place);
     recount(rows, book);
     renew_marks(counts, corners, poses, offsets, marks, place);
+}
+
+// The piece at a place removed.
+pub fn remove(
+    counts: &[u8; limits::SHAPES],
+    corners: &[i32; limits::CORNER_NUMBERS],
+    poses: &mut [u8; limits::POSE_NUMBERS],
+    offsets: &[i32; limits::OFFSET_NUMBERS],
+    rows: &mut [u8; limits::ROWS],
+    book: &mut [u32; limits::BOOK],
+    marks: &mut [u16],
+    place: i32,
+) -> Outcome
+    ensures { λ r. ⌜ Removed (deskOf (now (counts .entry)) (now (corners .entry)) (now (poses .entry)) (now (offsets .entry)) (now (rows .entry)) (now (book .entry)) (now (marks .entry))) place (deskOf (now (counts .entry)) (now (corners .entry)) (now (poses .exit)) (now (offsets .entry)) (now (rows .exit)) (now (book .exit)) (now (marks .exit))) r ⌝ }
+{
+    if !desk_in_order(counts, corners, poses, offsets, rows, book, marks) {
+        return Outcome::Refused(limits::DISORDER);
+    }
+    let p = index_of(place, limits::PLACES);
+    if limits::PLACES <= p {
+        return Outcome::Refused(limits::PLACE_NUMBER);
+    }
+    if !is_taken(poses, p) {
+        return Outcome::Refused(limits::PLACE_EMPTY);
+    }
+    empty_place(counts, corners, poses, offsets, rows, book, marks, p);
+    Outcome::Done(0)
 }

@@ -1,15 +1,17 @@
 -- `desk::start::start`: the length is tested before anything is written.
-use mathlib.Core.Path.{_∙_, ap}
+use mathlib.Core.Path.{refl, _∙_, ap}
+use mathlib.Core.Logic.{inl, inr}
+use native.Mathlib.Omega.{arith}
 use lib.ListN.{replicate}
 use Prim.Native.Nat.{ℕ}
 use Rattle.limits.specs.Limits
-use Rattle.desk.specs.CommandLaws.{started-refused, started-fresh, fresh-is}
+use Rattle.desk.specs.CommandLaws.{refuses, accepts, fresh-is}
 use borrow.Author.Needs.{needs}
 use Rattle.desk.proofs.start.start.Statement.{statement}
 use Rattle.desk.proofs.start.start.Tie as tie
 
 returns : tie.Need-returns
-returns c = started-refused (c .if1 .taken)
+returns c = refuses (inl (c .if1 .taken, refl)) (omega arith)
 
 start-pieces-requires : tie.Need-start-pieces-requires
 start-pieces-requires c κs = search needs
@@ -28,7 +30,7 @@ returns-2 c =
     let long = c .before .before .before .before .before .before .before .before .before .before .before .before .if1 .left in
     let p = c .before .before .before .before .before .before .before .start-pieces .ensures in
     let r = c .before .before .before .before .start-rows .ensures in
-    started-fresh long (fresh-is (p .0) (p .1 .0) (p .1 .1 .0) (p .1 .1 .1) (r .0) (r .1) (c .before .before .start-marks .ensures ∙ ap (λ (n : ℕ). replicate n Limits.noMark) long))
+    accepts (inr (λ f. f long, refl)) (fresh-is (p .0) (p .1 .0) (p .1 .1 .0) (p .1 .1 .1) (r .0) (r .1) (c .before .before .start-marks .ensures ∙ ap (λ (n : ℕ). replicate n Limits.noMark) long), refl)
 
 pub start-spec : {M : Type 1} → statement M
 start-spec =
