@@ -4,6 +4,7 @@ use mathlib.Core.Path.{_≡_, refl, sym, ap, _∙_, subst}
 use mathlib.Core.List.{List, [], _∷_}
 use mathlib.Core.Logic.{inl, inr}
 use Prim.Native.Nat.{ℕ, _+_, _*_, _<_, _≤_}
+use native.Mathlib.Decide.{ℕ-discrete}
 use native.Mathlib.Omega.{arith}
 use lib.IntN.{ℤ, pos, negsuc, natAbs}
 use lib.Signed.{_≤ℤ_, _<ℤ_, clashℤ}
@@ -19,11 +20,15 @@ use Rattle.rows.specs.declared.Listed.{Listed}
 use Rattle.rows.specs.declared.Listed.the-variants.{Rows, Refused}
 use Rattle.marks.specs.Marks.{InPlaceMarks}
 use Rattle.marks.specs.Buffer.{none-in-place-marks, one-buffer}
-use Rattle.pieces.specs.Pieces.{Store, axesOf}
+use Rattle.pieces.specs.Pieces.{Store, axesOf, pieceAt}
 use Rattle.pieces.specs.Store.{ranged}
+use Rattle.space.specs.Exclusion.{verdict-once}
+use Rattle.walk.specs.Answers.{nothing, Carries}
+use Rattle.walk.specs.declared.Answer.{Answer}
 use Rattle.desk.specs.Handled.{Emptied}
+use Rattle.desk.specs.RowLaws.{carries-at}
 use Rattle.desk.specs.Desk.{Desk, deskOf, InOrder}
-use Rattle.desk.specs.Commands.{Commanded, Numbered, freshDesk, startRefusals, Started, removeRefusals, Removed, contactRefusals, ListsContacts}
+use Rattle.desk.specs.Commands.{Commanded, Numbered, freshDesk, startRefusals, Started, removeRefusals, Removed, contactRefusals, ListsContacts, pairRefusals, Pairs}
 use Rattle.desk.specs.declared.Outcome.{Outcome}
 use Rattle.desk.specs.declared.Outcome.the-variants as outcome
 
@@ -111,3 +116,25 @@ contacts-once (Rows m) (Rows n) p q = (p .written refl ∙ sym (q .written refl)
 contacts-once {d} {room} (Rows m) (Refused n) p q = absurd (omega (arith, q .named, lowest-once (contactRefusals d room) {m = 0} {n = n} (p .refusal) (q .refusal)))
 contacts-once {d} {room} (Refused m) (Rows n) p q = absurd (omega (arith, p .named, lowest-once (contactRefusals d room) {m = m} {n = 0} (p .refusal) (q .refusal)))
 contacts-once {d} {room} (Refused m) (Refused n) p q = (p .kept (p .named) ∙ sym (q .kept (q .named)), ap Refused (lowest-once (contactRefusals d room) {m = m} {n = n} (p .refusal) (q .refusal)))
+
+-- ---- the pair question
+pub pair-refuses : {d : Desk} {first second : ℤ} {n : ℕ} {r : Answer} → Lowest (pairRefusals d first second) n → 0 < n → r ≡ nothing n → Pairs d first second r
+pair-refuses {d} {first} {second} {n} h k e = subst (Pairs d first second) (sym e) (record { refusal = h; zeros = λ _. refl; carries = λ z. absurd (omega arith) })
+
+pub pair-answers : {d : Desk} {first second : ℤ} {i j : ℕ} {r : Answer} → Lowest (pairRefusals d first second) 0 → i ≡ natAbs first → j ≡ natAbs second → (r .number ≡ 0) × Carries (pieceAt (d .store) i) (pieceAt (d .store) j) r → Pairs d first second r
+pair-answers {d} {first} {second} {r = r} h ei ej c = record {
+  refusal = subst (Lowest (pairRefusals d first second)) (sym (c .0)) h;
+  zeros = λ f. absurd (f (c .0));
+  carries = λ _. carries-at (ap (pieceAt (d .store)) ei) (ap (pieceAt (d .store)) ej) c .1;
+}
+
+-- the number and the verdict cannot vary; the witnesses may
+pub pairs-once : {d : Desk} {first second : ℤ} {q r : Answer} → Pairs d first second q → Pairs d first second r → (q .number ≡ r .number) × (q .verdict ≡ r .verdict)
+pairs-once {d} {first} {second} {q} {r} a b = (same, go (ℕ-discrete (q .number) Limits.done))
+  where
+    same : q .number ≡ r .number
+    same = lowest-once (pairRefusals d first second) (a .refusal) (b .refusal)
+
+    go : Dec (q .number ≡ Limits.done) → q .verdict ≡ r .verdict
+    go (yes z) = verdict-once (a .carries z .right) (b .carries (sym same ∙ z) .right)
+    go (no f) = ap (λ (x : Answer). x .verdict) (a .zeros f) ∙ sym (ap (λ (x : Answer). x .verdict) (b .zeros (λ z. f (same ∙ z))))

@@ -2,6 +2,7 @@
 -- Refused: the lowest number that applies, and nothing that was lent has changed. The laws stand in CommandLaws.antt.
 use mathlib.Core.Path.{_≡_}
 use mathlib.Core.List.{List, [], _∷_, _++_}
+use mathlib.Core.Logic.{_⊎_}
 use Prim.Native.Nat.{ℕ, _*_, _<_}
 use lib.IntN.{ℤ, pos, natAbs}
 use lib.ListN.{length, drop, replicate}
@@ -10,6 +11,9 @@ use Rattle.limits.specs.Lowest.{Refusal, Lowest, _when_}
 use Rattle.rows.specs.Rows as listing
 use Rattle.rows.specs.Rows.{Taken}
 use Rattle.rows.specs.declared.Listed.{Listed}
+use Rattle.pieces.specs.Pieces.{pieceAt}
+use Rattle.walk.specs.Answers.{nothing, Carries}
+use Rattle.walk.specs.declared.Answer.{Answer}
 use Rattle.desk.specs.Desk.{Desk, deskOf, InOrder}
 use Rattle.desk.specs.Handled.{Emptied}
 use Rattle.desk.specs.declared.Outcome.{Outcome}
@@ -80,3 +84,18 @@ pub record ListsContacts (d : Desk) (room after : List ℕ) (r : Listed) : Type 
   pub kept : 0 < listing.numberOf r → after ≡ room
   pub zeros : 0 < listing.numberOf r → listing.rowsOf r ≡ 0
   pub named : listing.Named r
+
+-- ---- "Ask for the pair verdict of two different taken places": 1, 7, 9, 12 "the same place twice"
+abbrev pub pairRefusals : Desk → ℤ → ℤ → List Refusal
+pairRefusals d first second =
+    Limits.disorder when (InOrder d → ⊥)
+    ∷ Limits.placeNumber when ((Numbered Limits.places first → ⊥) ⊎ (Numbered Limits.places second → ⊥))
+    ∷ Limits.placeEmpty when ((Taken (d .store .poses) (natAbs first) → ⊥) ⊎ (Taken (d .store .poses) (natAbs second) → ⊥))
+    ∷ Limits.samePlace when (natAbs first ≡ natAbs second)
+    ∷ []
+
+-- the desk is lent to be read alone; "The first piece is the one named first."
+pub record Pairs (d : Desk) (first second : ℤ) (r : Answer) : Type 0 where
+  pub refusal : Lowest (pairRefusals d first second) (r .number)
+  pub zeros : (r .number ≡ Limits.done → ⊥) → r ≡ nothing (r .number)
+  pub carries : r .number ≡ Limits.done → Carries (pieceAt (d .store) (natAbs first)) (pieceAt (d .store) (natAbs second)) r

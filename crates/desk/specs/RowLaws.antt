@@ -13,6 +13,8 @@ use Rattle.space.specs.Exclusion.{verdict-once}
 use Rattle.space.specs.Lists.{Placed}
 use Rattle.rows.specs.Rows.{Verdict, Taken, Put, Handled}
 use Rattle.rows.specs.Handling.{handled-skip, handled-put}
+use Rattle.walk.specs.Answers.{Carries}
+use Rattle.walk.specs.declared.Answer.{Answer}
 use Rattle.pieces.specs.Pieces.{Store, pieceAt, countAt}
 use Rattle.pieces.specs.Store.{piece-placed, list-length}
 use Rattle.pieces.specs.Boxes.{Apart, Piece, Numbers}
@@ -47,8 +49,12 @@ one-above d l t u r k = record { step = λ first h. handled-put (record { rising
 pub row-apart : (d : Store) (i j : ℕ) → Apart d i j → RowRight d i j 0
 row-apart d i j a = inl (refl, a)
 
-pub row-verdict : (d : Store) (i j : ℕ) {v : ℕ} {A B : List ℤ} → (Apart d i j → ⊥) → A ≡ pieceAt d i → B ≡ pieceAt d j → VerdictIs A B v → RowRight d i j v
-row-verdict d i j {v} {A} {B} f ea eb h = inr (f, subst (λ X. VerdictIs X (pieceAt d j) v) ea (subst (λ X. VerdictIs A X v) eb h))
+pub row-verdict : (d : Store) (i j : ℕ) {v : ℕ} → (Apart d i j → ⊥) → VerdictIs (pieceAt d i) (pieceAt d j) v → RowRight d i j v
+row-verdict d i j f h = inr (f, h)
+
+-- an answer about two lists is one about the pieces that they are
+pub carries-at : {A B P Q : List ℤ} {r : Answer} → A ≡ P → B ≡ Q → (r .number ≡ 0) × Carries A B r → (r .number ≡ 0) × Carries P Q r
+carries-at {A} {B} {P} {Q} {r} ea eb h = (h .0, subst (λ (X : List ℤ). Carries X Q r) ea (subst (λ (X : List ℤ). Carries A X r) eb (h .1)))
 
 -- a part of an array that begins it
 pub front : {d : Store} {p n : ℕ} {a : List ℤ} → Numbers d p a → n ≡ countAt d p → take (3 * n) a ≡ pieceAt d p

@@ -3,6 +3,7 @@
 pub mod contacts;
 pub mod number;
 pub mod order;
+pub mod pair;
 pub mod remove;
 pub mod renew;
 pub mod row;

@@ -4,8 +4,9 @@ ghost use mathlib.Core.Path.{_≡_};
 ghost use Prim.Native.Nat.{_<_};
 ghost use Rattle.limits.specs.Limits;
 ghost use Rattle.rows.specs.Rows.{Handled};
-ghost use Rattle.pieces.specs.Pieces.{storeOf};
+ghost use Rattle.pieces.specs.Pieces.{storeOf, pieceAt};
 ghost use Rattle.pieces.specs.Boxes.{Piece};
+ghost use Rattle.walk.specs.Answers.{Carries};
 ghost use Rattle.desk.specs.Desk.{RowRight};
 ghost use Rattle.desk.specs.RowLaws.{OneMore};
 use pieces::placed::boxes_apart;
@@ -13,6 +14,7 @@ use pieces::placed::piece_count;
 use pieces::placed::piece_numbers;
 use rows::is_taken;
 use rows::put_row;
+use walk::Answer;
 use walk::verdict;
 
 // The right row of two taken places.
@@ -30,12 +32,27 @@ pub fn row_of(
     if boxes_apart(counts, corners, poses, offsets, low, high) {
         return 0;
     }
-    let n = piece_count(counts, corners, poses, offsets, low);
-    let m = piece_count(counts, corners, poses, offsets, high);
-    let a = piece_numbers(counts, corners, poses, offsets, low);
-    let b = piece_numbers(counts, corners, poses, offsets, high);
-    let answer = verdict(&a[..3 * n], &b[..3 * m]);
+    let answer = verdict_of(counts, corners, poses, offsets, low, high);
     answer.verdict
+}
+
+// The verdict of the pieces at two taken places, with its witnesses.
+pub fn verdict_of(
+    counts: &[u8; limits::SHAPES],
+    corners: &[i32; limits::CORNER_NUMBERS],
+    poses: &[u8; limits::POSE_NUMBERS],
+    offsets: &[i32; limits::OFFSET_NUMBERS],
+    first: usize,
+    second: usize,
+) -> Answer
+    requires { ⌜ Piece (storeOf (now counts) (now corners) (now poses) (now offsets)) first × Piece (storeOf (now counts) (now corners) (now poses) (now offsets)) second ⌝ }
+    ensures { λ r. ⌜ (r .number ≡ 0) × Carries (pieceAt (storeOf (now (counts .entry)) (now (corners .entry)) (now (poses .entry)) (now (offsets .entry))) first) (pieceAt (storeOf (now (counts .entry)) (now (corners .entry)) (now (poses .entry)) (now (offsets .entry))) second) r ⌝ }
+{
+    let n = piece_count(counts, corners, poses, offsets, first);
+    let m = piece_count(counts, corners, poses, offsets, second);
+    let a = piece_numbers(counts, corners, poses, offsets, first);
+    let b = piece_numbers(counts, corners, poses, offsets, second);
+    verdict(&a[..3 * n], &b[..3 * m])
 }
 
 // The rows of the piece at a place with every other taken place.

@@ -35,7 +35,7 @@ pub struct Answer {
 }
 
 // A refusal: its number, and every other value zero.
-fn refused(number: u8) -> Answer
+pub fn refused(number: u8) -> Answer
     ensures { λ r. ⌜ r ≡ nothing number ⌝ }
 {
     Answer {
