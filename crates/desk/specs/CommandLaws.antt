@@ -12,23 +12,23 @@ use lib.ListN.{length, getD, replicate, getD-replicate}
 use Rattle.ints.specs.Order.{nn-pos}
 use Rattle.limits.specs.Limits
 use Rattle.limits.specs.Lowest.{Refusal, Lowest, lowest-once}
-use Rattle.rows.specs.Rows.{Lists, BookInOrder}
+use Rattle.rows.specs.Rows.{Lists, BookInOrder, Handled}
 use Rattle.rows.specs.Counting.{zero-at, book-once}
 use Rattle.rows.specs.Changes.{cleared-once}
-use Rattle.rows.specs.Handling.{rows-started, book-started}
+use Rattle.rows.specs.Handling.{rows-started, book-started, handled-once}
 use Rattle.rows.specs.declared.Listed.{Listed}
 use Rattle.rows.specs.declared.Listed.the-variants.{Rows, Refused}
-use Rattle.marks.specs.Marks.{InPlaceMarks}
+use Rattle.marks.specs.Marks.{InPlaceMarks, changedMarks}
 use Rattle.marks.specs.Buffer.{none-in-place-marks, one-buffer}
 use Rattle.pieces.specs.Pieces.{Store, axesOf, pieceAt}
 use Rattle.pieces.specs.Store.{ranged}
 use Rattle.space.specs.Exclusion.{verdict-once}
 use Rattle.walk.specs.Answers.{nothing, Carries}
 use Rattle.walk.specs.declared.Answer.{Answer}
-use Rattle.desk.specs.Handled.{Emptied}
-use Rattle.desk.specs.RowLaws.{carries-at}
-use Rattle.desk.specs.Desk.{Desk, deskOf, InOrder}
-use Rattle.desk.specs.Commands.{Commanded, Numbered, freshDesk, startRefusals, Started, removeRefusals, Removed, contactRefusals, ListsContacts, pairRefusals, Pairs}
+use Rattle.state.specs.Handled.{Emptied, PutDown}
+use Rattle.state.specs.RowLaws.{carries-at, right-once}
+use Rattle.state.specs.Desk.{Desk, deskOf, InOrder, RowRight}
+use Rattle.desk.specs.Commands.{Commanded, Numbered, freshDesk, startRefusals, Started, loadRefusals, Loads, placeRefusals, Places, moveRefusals, MovedBy, Moves, removeRefusals, Removed, contactRefusals, ListsContacts, pairRefusals, Pairs}
 use Rattle.desk.specs.declared.Outcome.{Outcome}
 use Rattle.desk.specs.declared.Outcome.the-variants as outcome
 
@@ -83,13 +83,34 @@ fresh-order = record {
 pub started-once : {d a b : Desk} (q r : Outcome) → Started d a q → Started d b r → (a ≡ b) × (q ≡ r)
 started-once {d} = commanded-once (startRefusals d) (λ m n p q. (p .0 ∙ sym (q .0), p .1 ∙ sym (q .1)))
 
--- ---- removing
+-- ---- loading
+pub loaded-once : {d a b : Desk} {shape : ℤ} {numbers : List ℤ} (q r : Outcome) → Loads d shape numbers a q → Loads d shape numbers b r → (a ≡ b) × (q ≡ r)
+loaded-once {d} {shape = shape} {numbers} = commanded-once (loadRefusals d shape numbers) (λ m n p q. (p .0 ∙ sym (q .0), p .2 ∙ sym (q .2)))
+
+-- ---- placing, moving and removing
 -- two desks in order with the same shapes, places and rows are the same
 pub desk-once : {a b : Desk} → InOrder a → InOrder b → a .store ≡ b .store → a .rows ≡ b .rows → a ≡ b
 desk-once {a} {b} p q s r =
     let m = one-buffer (axesOf (b .store)) (ranged (q .pieces)) (a .marks) (b .marks) (subst (λ (d : Store). InPlaceMarks (axesOf d) (a .marks)) s (p .marks)) (q .marks) in
     let k = book-once (subst (λ (l : List ℕ). BookInOrder l (a .book)) r (p .book)) (q .book) in
     rw (s, r, m, k)
+
+put-once : {d a b : Desk} {p s t : ℕ} {x y z : ℤ} → PutDown d p s t x y z a → PutDown d p s t x y z b → a ≡ b
+put-once {d} {a} {b} {p} e f =
+    let same = e .store ∙ sym (f .store) in
+    let rows = subst (λ (k : Store). Handled (RowRight k) (k .poses) p Limits.places (d .rows) (a .rows)) same (e .rows) in
+    desk-once (e .order) (f .order) same (handled-once (λ low high v w. right-once (b .store) low high) (sym (e .rows .size) ∙ e .order .rows .size) rows (f .rows))
+
+pub placed-once : {d a b : Desk} {place shape turn x y z : ℤ} (q r : Outcome) → Places d place shape turn x y z a q → Places d place shape turn x y z b r → (a ≡ b) × (q ≡ r)
+placed-once {d} {place = place} {shape} {turn} {x} {y} {z} = commanded-once (placeRefusals d place shape turn x y z) (λ m n p q. (put-once (p .0) (q .0), p .1 ∙ sym (q .1)))
+
+pub moved-once : {d a b : Desk} {place turn x y z : ℤ} (q r : Outcome) → Moves d place turn x y z a q → Moves d place turn x y z b r → (a ≡ b) × (q ≡ r)
+moved-once {d} {a} {b} {place} {turn} {x} {y} {z} = commanded-once (moveRefusals d place turn x y z) one
+  where
+    one : (m n : ℕ) → MovedBy d (natAbs place) (natAbs turn) x y z a m → MovedBy d (natAbs place) (natAbs turn) x y z b n → (a ≡ b) × (m ≡ n)
+    one m n p q =
+        let same = put-once (p .put) (q .put) in
+        (same, p .counted ∙ ap (λ (k : Desk). changedMarks (axesOf (d .store)) (axesOf (k .store)) (natAbs place)) same ∙ sym (q .counted))
 
 emptied-once : {d a b : Desk} {p : ℕ} → Emptied d p a → Emptied d p b → a ≡ b
 emptied-once e f = desk-once (e .order) (f .order) (e .store ∙ sym (f .store)) (cleared-once (sym (e .rows .size) ∙ e .order .rows .size) (e .rows) (f .rows))

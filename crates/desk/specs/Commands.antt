@@ -3,19 +3,21 @@
 use mathlib.Core.Path.{_≡_}
 use mathlib.Core.List.{List, [], _∷_, _++_}
 use mathlib.Core.Logic.{_⊎_}
-use Prim.Native.Nat.{ℕ, _*_, _<_}
+use Prim.Native.Nat.{ℕ, _+_, _-_, _*_, _/_, _≤_, _<_}
 use lib.IntN.{ℤ, pos, natAbs}
-use lib.ListN.{length, drop, replicate}
+use lib.ListN.{length, getD, drop, replicate}
 use Rattle.limits.specs.Limits
 use Rattle.limits.specs.Lowest.{Refusal, Lowest, _when_}
 use Rattle.rows.specs.Rows as listing
 use Rattle.rows.specs.Rows.{Taken}
 use Rattle.rows.specs.declared.Listed.{Listed}
-use Rattle.pieces.specs.Pieces.{pieceAt}
+use Rattle.space.specs.Lists.{LengthFits, InReach}
+use Rattle.marks.specs.Marks.{changedMarks}
+use Rattle.pieces.specs.Pieces.{Store, Loaded, axesOf, pieceAt}
 use Rattle.walk.specs.Answers.{nothing, Carries}
 use Rattle.walk.specs.declared.Answer.{Answer}
-use Rattle.desk.specs.Desk.{Desk, deskOf, InOrder}
-use Rattle.desk.specs.Handled.{Emptied}
+use Rattle.state.specs.Desk.{Desk, deskOf, InOrder, loadedAt}
+use Rattle.state.specs.Handled.{OffsetFits, PutDown, Emptied}
 use Rattle.desk.specs.declared.Outcome.{Outcome}
 use Rattle.desk.specs.declared.Outcome.the-variants.{Done, Refused}
 
@@ -65,9 +67,65 @@ startRefusals d = Limits.disorder when (length (d .marks) ≡ Limits.marks → �
 abbrev pub Started : Desk → Desk → Outcome → Type 0
 Started before after r = Commanded (startRefusals before) (λ count. (after ≡ freshDesk) × (count ≡ 0)) before after r
 
--- ---- "Remove": 1, 7 "a place number not 0 to 63", 9 "a place is empty"
+-- ---- what the commands' refusals have in common: 2 "shape number not 0 to 31", 6 "place: shape not loaded"
+abbrev pub shapeRefusals : Store → ℤ → List Refusal
+shapeRefusals d shape = Limits.shapeNumber when (Numbered Limits.shapes shape → ⊥) ∷ Limits.shapeMissing when (Loaded d (natAbs shape) → ⊥) ∷ []
+
+-- 7 "a place number not 0 to 63", 8 "place: already taken"
+abbrev pub emptyRefusals : List ℕ → ℤ → List Refusal
+emptyRefusals poses place = Limits.placeNumber when (Numbered Limits.places place → ⊥) ∷ Limits.placeTaken when (Taken poses (natAbs place)) ∷ []
+
+-- 7, and 9 "move, remove, pair: a place is empty"
+abbrev pub takenRefusals : List ℕ → ℤ → List Refusal
+takenRefusals poses place = Limits.placeNumber when (Numbered Limits.places place → ⊥) ∷ Limits.placeEmpty when (Taken poses (natAbs place) → ⊥) ∷ []
+
+-- 10 "turn not 0 to 23", 11 "offset number beyond ±65,536"
+abbrev pub placementRefusals : ℤ → ℤ → ℤ → ℤ → List Refusal
+placementRefusals turn x y z = Limits.turnNumber when (Numbered Limits.turns turn → ⊥) ∷ Limits.offsetRange when (OffsetFits x y z → ⊥) ∷ []
+
+-- ---- "Load a shape at a number": 1, 2, 3 "a corner list's length isn't 3 × (1 to 32)", 4 "a shape's corner number is beyond ±65,536", 5 "load: number already loaded"
+abbrev pub newShapeRefusals : Store → ℤ → List ℤ → List Refusal
+newShapeRefusals d shape numbers =
+    Limits.shapeNumber when (Numbered Limits.shapes shape → ⊥)
+    ∷ Limits.listLength when (LengthFits (length numbers) → ⊥)
+    ∷ Limits.cornerRange when (InReach Limits.shapeReach numbers → ⊥)
+    ∷ Limits.shapeLoaded when (Loaded d (natAbs shape))
+    ∷ []
+
+abbrev pub loadRefusals : Desk → ℤ → List ℤ → List Refusal
+loadRefusals d shape numbers = Limits.disorder when (InOrder d → ⊥) ∷ newShapeRefusals (d .store) shape numbers
+
+abbrev pub Loads : Desk → ℤ → List ℤ → Desk → Outcome → Type 0
+Loads before shape numbers after r = Commanded (loadRefusals before shape numbers) (λ count. (after ≡ loadedAt before (natAbs shape) numbers) × InOrder after × (count ≡ 0)) before after r
+
+-- ---- "Place at an empty place": 1, 2, 6, 7, 8, 10, 11
+abbrev pub placeRefusals : Desk → ℤ → ℤ → ℤ → ℤ → ℤ → ℤ → List Refusal
+placeRefusals d place shape turn x y z = Limits.disorder when (InOrder d → ⊥) ∷ (shapeRefusals (d .store) shape ++ (emptyRefusals (d .store .poses) place ++ placementRefusals turn x y z))
+
+abbrev pub Places : Desk → ℤ → ℤ → ℤ → ℤ → ℤ → ℤ → Desk → Outcome → Type 0
+Places before place shape turn x y z after r =
+    Commanded (placeRefusals before place shape turn x y z) (λ count. PutDown before (natAbs place) (natAbs shape + 1) (natAbs turn) x y z after × (count ≡ 0)) before after r
+
+-- ---- "Move a taken place to a new turn and offset": 1, 7, 9, 10, 11
+abbrev pub moveRefusals : Desk → ℤ → ℤ → ℤ → ℤ → ℤ → List Refusal
+moveRefusals d place turn x y z = Limits.disorder when (InOrder d → ⊥) ∷ (takenRefusals (d .store .poses) place ++ placementRefusals turn x y z)
+
+-- what place p holds: its shape, plus one
+abbrev pub heldAt : List ℕ → ℕ → ℕ
+heldAt poses p = getD poses (2 * p) 0
+
+-- "A move reports a count: over the three axes, the number of pairs (mark of the moved piece, mark of another piece) whose order before and after differs. It is at most 756."
+pub record MovedBy (before : Desk) (p t : ℕ) (x y z : ℤ) (after : Desk) (count : ℕ) : Type 0 where
+  pub put : PutDown before p (heldAt (before .store .poses) p) t x y z after
+  pub counted : count ≡ changedMarks (axesOf (before .store)) (axesOf (after .store)) p
+  pub most : count ≤ 12 * (Limits.places - 1)
+
+abbrev pub Moves : Desk → ℤ → ℤ → ℤ → ℤ → ℤ → Desk → Outcome → Type 0
+Moves before place turn x y z after r = Commanded (moveRefusals before place turn x y z) (MovedBy before (natAbs place) (natAbs turn) x y z after) before after r
+
+-- ---- "Remove": 1, 7, 9
 abbrev pub removeRefusals : Desk → ℤ → List Refusal
-removeRefusals d place = Limits.disorder when (InOrder d → ⊥) ∷ Limits.placeNumber when (Numbered Limits.places place → ⊥) ∷ Limits.placeEmpty when (Taken (d .store .poses) (natAbs place) → ⊥) ∷ []
+removeRefusals d place = Limits.disorder when (InOrder d → ⊥) ∷ takenRefusals (d .store .poses) place
 
 abbrev pub Removed : Desk → ℤ → Desk → Outcome → Type 0
 Removed before place after r = Commanded (removeRefusals before place) (λ count. Emptied before (natAbs place) after × (count ≡ 0)) before after r
@@ -86,13 +144,15 @@ pub record ListsContacts (d : Desk) (room after : List ℕ) (r : Listed) : Type 
   pub named : listing.Named r
 
 -- ---- "Ask for the pair verdict of two different taken places": 1, 7, 9, 12 "the same place twice"
-abbrev pub pairRefusals : Desk → ℤ → ℤ → List Refusal
-pairRefusals d first second =
-    Limits.disorder when (InOrder d → ⊥)
-    ∷ Limits.placeNumber when ((Numbered Limits.places first → ⊥) ⊎ (Numbered Limits.places second → ⊥))
-    ∷ Limits.placeEmpty when ((Taken (d .store .poses) (natAbs first) → ⊥) ⊎ (Taken (d .store .poses) (natAbs second) → ⊥))
-    ∷ Limits.samePlace when (natAbs first ≡ natAbs second)
+abbrev pub twoRefusals : List ℕ → ℤ → ℤ → List Refusal
+twoRefusals poses first second =
+    Limits.placeNumber when ((Numbered Limits.places first → ⊥) ⊎ (Numbered Limits.places second → ⊥))
+    ∷ Limits.placeEmpty when ((Taken poses (natAbs first) → ⊥) ⊎ (Taken poses (natAbs second) → ⊥))
+    ∷ Limits.samePlace when (first ≡ second)
     ∷ []
+
+abbrev pub pairRefusals : Desk → ℤ → ℤ → List Refusal
+pairRefusals d first second = Limits.disorder when (InOrder d → ⊥) ∷ twoRefusals (d .store .poses) first second
 
 -- the desk is lent to be read alone; "The first piece is the one named first."
 pub record Pairs (d : Desk) (first second : ℤ) (r : Answer) : Type 0 where

@@ -1,7 +1,6 @@
+pub mod Asked
 pub mod CommandLaws
 pub mod Commands
-pub mod Desk
-pub mod Handled
-pub mod OrderLaws
-pub mod PutLaws
-pub mod RowLaws
+pub mod Loading
+pub mod Pairing
+pub mod Placing

@@ -1,10 +1,10 @@
 // The listing of contacts: rows 2 and 3 of a desk in order, three bytes each, written to lent room.
 // The desk is only read.
-ghost use Rattle.desk.specs.Desk.{deskOf};
+ghost use Rattle.state.specs.Desk.{deskOf};
 ghost use Rattle.desk.specs.Commands.{ListsContacts};
-use crate::order::desk_in_order;
 use rows::Listed;
 use rows::list_contacts;
+use state::order::desk_in_order;
 
 pub fn contacts(
     counts: &[u8; limits::SHAPES],

@@ -1,12 +1,13 @@
 // The desk: load, place, move, remove, ask and list, over state that the caller lends.
 // Every command and question first tests that the desk is in order; a refusal is given before anything is written.
+pub mod asked;
 pub mod contacts;
+pub mod load;
+pub mod moves;
 pub mod number;
-pub mod order;
 pub mod pair;
+pub mod place;
 pub mod remove;
-pub mod renew;
-pub mod row;
 pub mod start;
 
 // The answer to a command: its count, which is 0 but for a move, or a refusal's number.

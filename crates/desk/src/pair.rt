@@ -1,11 +1,11 @@
 // The pair question: the verdict of two different taken places of a desk in order, with its witnesses.
 // The desk is only read.
-ghost use Rattle.desk.specs.Desk.{deskOf};
+ghost use Rattle.state.specs.Desk.{deskOf};
 ghost use Rattle.desk.specs.Commands.{Pairs};
+use crate::asked::pair_refusal;
 use crate::number::index_of;
-use crate::order::desk_in_order;
-use crate::row::verdict_of;
-use rows::is_taken;
+use state::order::desk_in_order;
+use state::row::verdict_of;
 use walk::Answer;
 use walk::refused;
 
@@ -25,22 +25,11 @@ pub fn pair(
     if !desk_in_order(counts, corners, poses, offsets, rows, book, marks) {
         return refused(limits::DISORDER);
     }
+    let number = pair_refusal(poses, first, second);
+    if number != limits::DONE {
+        return refused(number);
+    }
     let i = index_of(first, limits::PLACES);
     let j = index_of(second, limits::PLACES);
-    if limits::PLACES <= i {
-        return refused(limits::PLACE_NUMBER);
-    }
-    if limits::PLACES <= j {
-        return refused(limits::PLACE_NUMBER);
-    }
-    if !is_taken(poses, i) {
-        return refused(limits::PLACE_EMPTY);
-    }
-    if !is_taken(poses, j) {
-        return refused(limits::PLACE_EMPTY);
-    }
-    if i == j {
-        return refused(limits::SAME_PLACE);
-    }
     verdict_of(counts, corners, poses, offsets, i, j)
 }

@@ -1,41 +1,13 @@
 // Removing a piece: its place is emptied, its rows and marks go, and the tallies are counted afresh.
-// Every other shape, place and row stays.
-ghost use Prim.Native.Nat.{_<_};
-ghost use Rattle.limits.specs.Limits;
-ghost use Rattle.desk.specs.Desk.{deskOf, InOrder};
-ghost use Rattle.desk.specs.Handled.{Emptied};
+// Every refusal is found before anything is written.
+ghost use Rattle.state.specs.Desk.{deskOf};
 ghost use Rattle.desk.specs.Commands.{Removed};
 use crate::Outcome;
+use crate::asked::taken_refusal;
 use crate::number::index_of;
-use crate::order::desk_in_order;
-use crate::renew::renew_marks;
-use pieces::order::sized_store;
-use rows::clear_place;
-use rows::is_taken;
-use rows::recount;
+use state::empty::empty_place;
+use state::order::desk_in_order;
 
-// A place of a desk in order emptied.
-fn empty_place(
-    counts: &[u8; limits::SHAPES],
-    corners: &[i32; limits::CORNER_NUMBERS],
-    poses: &mut [u8; limits::POSE_NUMBERS],
-    offsets: &[i32; limits::OFFSET_NUMBERS],
-    rows: &mut [u8; limits::ROWS],
-    book: &mut [u32; limits::BOOK],
-    marks: &mut [u16],
-    place: usize,
-)
-    requires { ⌜ InOrder (deskOf (now counts) (now corners) (now poses) (now offsets) (now rows) (now book) (now marks)) × (place < Limits.places) ⌝ }
-    ensures { λ _. ⌜ Emptied (deskOf (now (counts .entry)) (now (corners .entry)) (now (poses .entry)) (now (offsets .entry)) (now (rows .entry)) (now (book .entry)) (now (marks .entry))) place (deskOf (now (counts .entry)) (now (corners .entry)) (now (poses .exit)) (now (offsets .entry)) (now (rows .exit)) (now (book .exit)) (now (marks .exit))) ⌝ }
-{
-    sized_store(counts, corners, poses, offsets);
-    poses[2 * place] = 0;
-    clear_place(rows, place);
-    recount(rows, book);
-    renew_marks(counts, corners, poses, offsets, marks, place);
-}
-
-// The piece at a place removed.
 pub fn remove(
     counts: &[u8; limits::SHAPES],
     corners: &[i32; limits::CORNER_NUMBERS],
@@ -51,13 +23,11 @@ pub fn remove(
     if !desk_in_order(counts, corners, poses, offsets, rows, book, marks) {
         return Outcome::Refused(limits::DISORDER);
     }
+    let number = taken_refusal(poses, place);
+    if number != limits::DONE {
+        return Outcome::Refused(number);
+    }
     let p = index_of(place, limits::PLACES);
-    if limits::PLACES <= p {
-        return Outcome::Refused(limits::PLACE_NUMBER);
-    }
-    if !is_taken(poses, p) {
-        return Outcome::Refused(limits::PLACE_EMPTY);
-    }
     empty_place(counts, corners, poses, offsets, rows, book, marks, p);
     Outcome::Done(0)
 }

@@ -4,7 +4,7 @@ ghost use mathlib.Core.Path.{_≡_};
 ghost use lib.IntN.{pos};
 ghost use lib.ListN.{replicate};
 ghost use Rattle.limits.specs.Limits;
-ghost use Rattle.desk.specs.Desk.{deskOf};
+ghost use Rattle.state.specs.Desk.{deskOf};
 ghost use Rattle.desk.specs.Commands.{Started};
 use crate::Outcome;
 use marks::start_marks;

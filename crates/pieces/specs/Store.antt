@@ -75,13 +75,13 @@ unfolding listTo
 list-same zero f g h = refl
 list-same (suc n) f g h = ap₂ (λ l x. l ++ (x ∷ [])) (list-same n f g (λ k l. h k (omega arith))) (h n (omega arith))
 
-least-same : (n : ℕ) (f g : ℕ → ℤ) → ((k : ℕ) → k < n → f k ≡ g k) → leastTo n f ≡ leastTo n g
+pub least-same : (n : ℕ) (f g : ℕ → ℤ) → ((k : ℕ) → k < n → f k ≡ g k) → leastTo n f ≡ leastTo n g
 unfolding leastTo
 least-same zero f g h = refl
 least-same (suc zero) f g h = h 0 (omega arith)
 least-same (suc (suc n)) f g h = ap₂ lesser (h (suc n) (omega arith)) (least-same (suc n) f g (λ k l. h k (omega arith)))
 
-greatest-same : (n : ℕ) (f g : ℕ → ℤ) → ((k : ℕ) → k < n → f k ≡ g k) → greatestTo n f ≡ greatestTo n g
+pub greatest-same : (n : ℕ) (f g : ℕ → ℤ) → ((k : ℕ) → k < n → f k ≡ g k) → greatestTo n f ≡ greatestTo n g
 unfolding greatestTo
 greatest-same zero f g h = refl
 greatest-same (suc zero) f g h = h 0 (omega arith)

@@ -1,0 +1,10 @@
+pub mod Judging
+pub mod Table
+pub mod Lists
+pub mod Holding
+pub mod Counting
+pub mod Standing
+pub mod Two
+pub mod Three
+pub mod Moving
+pub mod Starred

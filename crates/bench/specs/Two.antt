@@ -1,0 +1,84 @@
+-- Two pieces of the table: the pair question's answer on their lists, the row of their places, and that such a desk there is.
+-- Each from one test of the two lists and their verdict.
+use mathlib.Core.Path.{_≡_, sym, subst}
+use mathlib.Core.List.{List}
+use mathlib.Core.Bool.{Bool, _&&_}
+use mathlib.Core.Logic.{inl, inr}
+use Prim.Native.Nat.{ℕ, _*_, _/_}
+use lib.Dec.{T, eqb, leb, eqb→eq, leb→le}
+use lib.IntN.{ℤ, pos, natAbs}
+use lib.ListN.{length, getD}
+use Rattle.limits.specs.Limits
+use Rattle.limits.specs.Lowest.{Lowest}
+use Rattle.space.specs.Lists.{LengthFits, InReach, Placed}
+use Rattle.space.specs.Verdicts.{VerdictIs}
+use Rattle.space.specs.Exclusion.{verdict-once}
+use Rattle.walk.specs.Answers.{Answers, refusals}
+use Rattle.walk.specs.declared.Answer.{Answer}
+use Rattle.turns.specs.Table.{and-left, and-right, below, number}
+use Rattle.bench.specs.Table.{placed, Between}
+use Rattle.bench.specs.Holding.{placed-length, isApart, isMixed, apart-row, verdict-row}
+use Rattle.bench.specs.Standing.{two-stand}
+
+-- ---- what may be asked about: 1 to 32 corners, and no number beyond ±131,072
+abbrev isShape : List ℤ → Bool
+isShape s = (leb 1 (length s / 3) && leb (length s / 3) Limits.corners) && eqb (length s) (3 * (length s / 3))
+
+fits-by : (s : List ℤ) → T (isShape s) → LengthFits (length s)
+fits-by s t =
+    let size = and-left (leb 1 (length s / 3) && leb (length s / 3) Limits.corners) _ t in
+    record {
+      count = length s / 3;
+      least = leb→le 1 (length s / 3) (and-left (leb 1 (length s / 3)) _ size);
+      most = leb→le (length s / 3) Limits.corners (and-right (leb 1 (length s / 3)) _ size);
+      is = eqb→eq (length s) (3 * (length s / 3)) (and-right (leb 1 (length s / 3) && leb (length s / 3) Limits.corners) _ t);
+    }
+
+abbrev isNear : List ℤ → Bool
+isNear s = below (λ k. leb (natAbs (getD s k (pos 0))) Limits.placedReach) (length s)
+
+near-by : (s : List ℤ) → T (isNear s) → InReach Limits.placedReach s
+near-by s t = record { all = λ k l. record { abs = leb→le _ Limits.placedReach (number (λ k. leb (natAbs (getD s k (pos 0))) Limits.placedReach) (length s) t k l) } }
+
+placed-by : (shape : List ℤ) (x y z : ℕ) → LengthFits (length shape) → T (isNear (placed shape x y z)) → Placed (placed shape x y z)
+placed-by shape x y z f t = record { fits = subst LengthFits (sym (placed-length (f .count) shape x y z (sym (f .is)))) f; near = near-by (placed shape x y z) t }
+
+-- the pair question on two such lists is not refused, and its verdict is the right one
+answered : {A B : List ℤ} {v : ℕ} → Placed A → Placed B → VerdictIs A B v → (r : Answer) → Answers A B r → (r .number ≡ 0) × (r .verdict ≡ v)
+answered {A} {B} {v} a b right r h = go (h .refusal)
+  where
+    go : Lowest (refusals A B) (r .number) → (r .number ≡ 0) × (r .verdict ≡ v)
+    go (inl (inl f, e)) = absurd (f (a .fits))
+    go (inl (inr f, e)) = absurd (f (b .fits))
+    go (inr (k, inl (inl f, e))) = absurd (f (a .near))
+    go (inr (k, inl (inr f, e))) = absurd (f (b .near))
+    go (inr (k, inr (l, e))) = (e, verdict-once (h .carries e .right) right)
+
+-- ---- two pieces, the first at 0
+abbrev pub isCase : List ℤ → List ℤ → ℕ → ℕ → ℕ → Bool
+isCase first second x y z = (isShape first && isShape second) && (isNear (placed first 0 0 0) && isNear (placed second x y z))
+
+pub record Case (first second : List ℤ) (x y z v : ℕ) : Type 0 where
+  pub test : T (isCase first second x y z)
+  pub right : VerdictIs (placed first 0 0 0) (placed second x y z) v
+
+module _ {first second : List ℤ} {x y z v : ℕ} (c : Case first second x y z v) where
+  shapes : LengthFits (length first) × LengthFits (length second)
+  shapes =
+      let t = and-left (isShape first && isShape second) _ (c .test) in
+      (fits-by first (and-left (isShape first) _ t), fits-by second (and-right (isShape first) _ t))
+
+  answers : (r : Answer) → Answers (placed first 0 0 0) (placed second x y z) r → (r .number ≡ 0) × (r .verdict ≡ v)
+  answers =
+      let t = and-right (isShape first && isShape second) _ (c .test) in
+      answered
+      (placed-by first 0 0 0 (shapes .0) (and-left (isNear (placed first 0 0 0)) _ t))
+      (placed-by second x y z (shapes .1) (and-right (isNear (placed first 0 0 0)) _ t))
+      (c .right)
+
+  -- boxes that are not apart: the row is the verdict
+  pub mixed : T (isMixed (placed first 0 0 0) (placed second x y z)) → Between first second x y z v v
+  mixed t = record { lists = c .right; answers = answers; desks = λ d p q h k. verdict-row h k t (c .right); there-is = two-stand first second (shapes .0) (shapes .1) x y z }
+
+  pub apart : T (isApart (placed first 0 0 0) (placed second x y z)) → Between first second x y z v 0
+  apart t = record { lists = c .right; answers = answers; desks = λ d p q h k. apart-row h k t; there-is = two-stand first second (shapes .0) (shapes .1) x y z }

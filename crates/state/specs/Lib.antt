@@ -1,0 +1,6 @@
+pub mod Desk
+pub mod Handled
+pub mod LoadLaws
+pub mod OrderLaws
+pub mod PutLaws
+pub mod RowLaws
