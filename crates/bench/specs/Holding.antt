@@ -17,8 +17,8 @@ use Rattle.turns.specs.Table.{and-left, and-right, below, number}
 use Rattle.pieces.specs.Pieces.{Store, countAt, shapeAt, shapeNumber, offsetAt, placedCorner, pieceAt, leastTo, greatestTo, lowAt, highAt}
 use Rattle.pieces.specs.Store.{list-length, list-at, least-same, greatest-same}
 use Rattle.pieces.specs.Boxes.{Apart}
-use Rattle.state.specs.Desk.{RowRight}
-use Rattle.state.specs.RowLaws.{row-apart, row-verdict}
+use Rattle.pairs.specs.Right.{RowRight}
+use Rattle.pairs.specs.RowLaws.{row-apart, row-verdict}
 use Rattle.bench.specs.Table.{placed, Holds}
 
 -- ---- the list of placed corners

@@ -15,7 +15,8 @@ use Rattle.marks.specs.Marks.{changedMarks}
 use Rattle.rows.specs.Rows.{Taken, PairOf, rowAt, RowsInOrder, contacts}
 use Rattle.pieces.specs.Pieces.{Store, Sized, countAt, shapeAt, shapeNumber, turnAt, offsetAt, axesOf}
 use Rattle.pieces.specs.Boxes.{Apart}
-use Rattle.state.specs.Desk.{RowRight, putAt}
+use Rattle.state.specs.Desk.{putAt}
+use Rattle.pairs.specs.Right.{RowRight}
 
 -- ---- the pieces
 -- "B is the box 64, 64, 64 steps; T the corner piece 64, 64, 64; P a single point at (0,0,0)."

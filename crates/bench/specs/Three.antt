@@ -10,8 +10,8 @@ use Rattle.rows.specs.Rows.{Taken, PairOf, cell, rowAt, listed, contactsFrom, c
 use Rattle.rows.specs.Changes.{rows-once, row-same, row-other}
 use Rattle.rows.specs.Handling.{by-pair}
 use Rattle.pieces.specs.Pieces.{Store, leastTo, greatestTo}
-use Rattle.state.specs.Desk.{RowRight}
-use Rattle.state.specs.RowLaws.{right-once, right-verdict}
+use Rattle.pairs.specs.Right.{RowRight}
+use Rattle.pairs.specs.RowLaws.{right-once, right-verdict}
 use Rattle.bench.specs.Table.{HoldsThree, RightRows}
 use Rattle.bench.specs.Holding.{apart-row, verdict-row}
 use Rattle.bench.specs.Lists as lists

@@ -26,8 +26,9 @@ use Rattle.space.specs.Exclusion.{verdict-once}
 use Rattle.walk.specs.Answers.{nothing, Carries}
 use Rattle.walk.specs.declared.Answer.{Answer}
 use Rattle.state.specs.Handled.{Emptied, PutDown}
-use Rattle.state.specs.RowLaws.{carries-at, right-once}
-use Rattle.state.specs.Desk.{Desk, deskOf, InOrder, RowRight}
+use Rattle.pairs.specs.RowLaws.{carries-at, right-once}
+use Rattle.state.specs.Desk.{Desk, deskOf, InOrder}
+use Rattle.pairs.specs.Right.{RowRight}
 use Rattle.desk.specs.Commands.{Commanded, Numbered, freshDesk, startRefusals, Started, loadRefusals, Loads, placeRefusals, Places, moveRefusals, MovedBy, Moves, removeRefusals, Removed, contactRefusals, ListsContacts, pairRefusals, Pairs}
 use Rattle.desk.specs.declared.Outcome.{Outcome}
 use Rattle.desk.specs.declared.Outcome.the-variants as outcome

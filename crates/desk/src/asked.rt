@@ -5,7 +5,7 @@ ghost use Rattle.state.specs.Handled.{OffsetFits};
 ghost use Rattle.desk.specs.Placing.{ShapeAsked, EmptyAsked, TakenAsked, PlacementAsked};
 ghost use Rattle.desk.specs.Pairing.{PairAsked};
 use crate::number::index_of;
-use pieces::order::is_loaded;
+use ranges::is_loaded;
 use rows::is_taken;
 use space::near;
 

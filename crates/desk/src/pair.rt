@@ -4,8 +4,8 @@ ghost use Rattle.state.specs.Desk.{deskOf};
 ghost use Rattle.desk.specs.Commands.{Pairs};
 use crate::asked::pair_refusal;
 use crate::number::index_of;
+use pairs::row::verdict_of;
 use state::order::desk_in_order;
-use state::row::verdict_of;
 use walk::Answer;
 use walk::refused;
 

@@ -2,10 +2,8 @@
 -- Nothing here says which answer is right: that is said of the functions that the program calls.
 use Prim.Native.Nat.{ℕ, _≤_, _<_}
 use Rattle.mudwicket.specs.declared.input.State.{State}
-use Rattle.mudwicket.specs.declared.parts.Ends.{Ends}
-use Rattle.mudwicket.specs.declared.parts.Ends.the-variants.{At, Bad}
-use Rattle.mudwicket.specs.declared.parts.Index.{Index}
-use Rattle.mudwicket.specs.declared.parts.Index.the-variants.{At as IndexAt, Bad as NoIndex}
+use Rattle.panel.specs.declared.parts.Index.{Index}
+use Rattle.panel.specs.declared.parts.Index.the-variants.{At as IndexAt, Bad as NoIndex}
 use Rattle.mudwicket.specs.declared.texts.Request.{Request}
 use Rattle.mudwicket.specs.declared.texts.Request.the-variants.{Show, Bad as NoRequest}
 
@@ -16,11 +14,6 @@ pub record Held (s : State) (n : ℕ) : Type 0 where
   pub within : s .to ≤ n
   pub line : s .start ≤ s .end
   pub found : s .end ≤ n
-
--- of a line of n bytes: two words from `start` on end before a third
-abbrev pub Parted : ℕ → ℕ → Ends → Type 0
-Parted start n (At first second) = (start ≤ first) × (first < second) × (second < n)
-Parted start n Bad = Unit {0}
 
 -- of room of n bytes: one text, and another behind it
 abbrev pub Kept : ℕ → Request → Type 0

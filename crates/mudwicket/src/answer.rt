@@ -1,80 +1,115 @@
-// From a line to its command. A line of no bytes and a line that begins with `#` are passed over; one that is no command gets a `?`.
-// A command is a variant of `Command`, its word in `command_of`, and the arm of `answer` that calls its function.
+// The answer to a line, by its command.
+// What the desk has a part in is lent the desk; the rest is not.
 use crate::floats;
 use crate::input;
-use crate::lent;
 use crate::lists;
-use crate::out;
 use crate::texts;
+use panel::asked;
+use panel::command::Command;
+use panel::command::Other;
+use panel::command::read;
+use panel::lent;
+use panel::out;
+use panel::spoil;
+use panel::told;
 
-enum Command {
-    Length,
-    Line,
-    Lists,
-    Scan,
-    Show,
-    Blank,
-    Room,
-    Unknown,
-}
-
-// Puts the answer to a line, and hands back the next place.
+// Puts the answer to what a turn found, and hands back the next place.
 pub fn answer(
+    kind: u8,
     line: &[u8],
     out: &mut [u8],
     at: usize,
     texts: &mut [u8],
     numbers: &mut [i32],
-    lent: &mut [usize; 1],
+    lent: &mut [usize; 2],
+    counts: &mut [u8; limits::SHAPES],
+    corners: &mut [i32; limits::CORNER_NUMBERS],
+    poses: &mut [u8; limits::POSE_NUMBERS],
+    offsets: &mut [i32; limits::OFFSET_NUMBERS],
+    rows: &mut [u8; limits::ROWS],
+    book: &mut [u32; limits::BOOK],
+    marks: &mut [u16],
 ) -> usize {
+    match found(kind, line, numbers) {
+        Command::Tell(t) => told::tell(
+            t,
+            numbers,
+            lent,
+            counts,
+            corners,
+            poses,
+            offsets,
+            rows,
+            book,
+            marks,
+            out,
+            at,
+        ),
+        Command::Ask(a) => asked::ask(
+            a,
+            texts,
+            lent,
+            counts,
+            corners,
+            poses,
+            offsets,
+            rows,
+            book,
+            marks,
+            out,
+            at,
+        ),
+        Command::Spoil(cell) => spoil::spoil(
+            cell,
+            counts,
+            corners,
+            poses,
+            offsets,
+            rows,
+            book,
+            marks,
+            out,
+            at,
+        ),
+        Command::Other(o) => other(o, line, out, at, texts, numbers, lent),
+    }
+}
+
+// The command that a turn found.
+fn found(kind: u8, line: &[u8], numbers: &mut [i32]) -> Command {
+    if kind == input::LONG {
+        return Command::Other(Other::Unknown);
+    }
+    if kind == input::PASSED {
+        return Command::Other(Other::Nothing);
+    }
     if input::MOST < line.len() {
-        return out::wrong(out, at);
+        return Command::Other(Other::Unknown);
     }
-    if is_passed_over(line) {
-        return at;
-    }
+    read(line, numbers)
+}
+
+// The answer to a command that the desk has no part in.
+fn other(
+    command: Other,
+    line: &[u8],
+    out: &mut [u8],
+    at: usize,
+    texts: &mut [u8],
+    numbers: &mut [i32],
+    lent: &mut [usize; 2],
+) -> usize {
     let end = words::word_end(line, 0);
-    match command_of(&line[0..end]) {
-        Command::Length => texts::length(line, end, out, at),
-        Command::Line => texts::line(line, end, texts, out, at),
-        Command::Lists => lists::lists(line, end, numbers, out, at),
-        Command::Scan => floats::scan(line, end, out, at),
-        Command::Show => floats::show(line, end, out, at),
-        Command::Blank => floats::blank(line, end, lent[lent::ROOM], numbers, out, at),
-        Command::Room => lent::room(line, end, lent, out, at),
-        Command::Unknown => out::wrong(out, at),
+    match command {
+        Other::Length => texts::length(line, end, out, at),
+        Other::Line => texts::line(line, end, texts, out, at),
+        Other::Lists => lists::lists(line, end, numbers, out, at),
+        Other::Scan => floats::scan(line, end, out, at),
+        Other::Show => floats::show(line, end, out, at),
+        Other::Blank => floats::blank(line, end, lent, numbers, out, at),
+        Other::Room => lent::room(line, end, lent, out, at),
+        Other::Lend => lent::lend(line, end, lent, out, at),
+        Other::Nothing => at,
+        Other::Unknown => out::wrong(out, at),
     }
-}
-
-fn is_passed_over(line: &[u8]) -> bool {
-    if line.len() == 0 {
-        return true;
-    }
-    line[0] == b'#'
-}
-
-// The command that a line's first word names.
-fn command_of(word: &[u8]) -> Command {
-    if check::same(word, b"length") {
-        return Command::Length;
-    }
-    if check::same(word, b"line") {
-        return Command::Line;
-    }
-    if check::same(word, b"lists") {
-        return Command::Lists;
-    }
-    if check::same(word, b"scan") {
-        return Command::Scan;
-    }
-    if check::same(word, b"show") {
-        return Command::Show;
-    }
-    if check::same(word, b"blank") {
-        return Command::Blank;
-    }
-    if check::same(word, b"room") {
-        return Command::Room;
-    }
-    Command::Unknown
 }

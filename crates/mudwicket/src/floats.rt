@@ -4,11 +4,13 @@ ghost use mathlib.Core.Path.{_≡_};
 ghost use Prim.Native.Nat.{_≤_};
 ghost use lib.Ieee.{binary32, ofBits};
 ghost use lib.ListN.{length};
-use crate::out;
-use crate::parts::Ends;
-use crate::parts::after;
-use crate::parts::only_number;
-use crate::parts::three_words;
+use panel::lent;
+use panel::lent::at_most;
+use panel::out;
+use panel::parts::Ends;
+use panel::parts::after;
+use panel::parts::only_number;
+use panel::parts::three_words;
 
 // The floats of three bit patterns.
 enum Floats {
@@ -69,12 +71,11 @@ fn shown(m: scans::Millimetres, out: &mut [u8], at: usize) -> usize {
     out::end(out, next)
 }
 
-// `blank box h h h`, or `wedge` or `corner`: the corners, in as many of the numbers as are lent. No `room` asks for more than there are;
-// the test shows it to the prover.
+// `blank box h h h`, or `wedge` or `corner`: the corners, in as many of the numbers as are lent.
 pub fn blank(
     line: &[u8],
     end: usize,
-    room: usize,
+    lent: &[usize; 2],
     numbers: &mut [i32],
     out: &mut [u8],
     at: usize,
@@ -82,9 +83,7 @@ pub fn blank(
     let Asked::Blank(b) = read_blank(line, end) else {
         return out::wrong(out, at);
     };
-    if numbers.len() < room {
-        return corners(b, numbers, out, at);
-    }
+    let room = at_most(lent[lent::ROOM], numbers.len());
     corners(b, &mut numbers[0..room], out, at)
 }
 

@@ -1,27 +1,56 @@
 // The desk at a command line: reads commands from standard input, one a line, and writes one line of answer for each.
-// `run` goes from line to line; `answer::answer` finds the command, and hands the line to the function that answers it.
+// `run` goes from line to line; `answer::answer` finds the command of a line, and hands it to the function that answers it.
 mod answer;
 mod floats;
 mod input;
-mod lent;
 mod lists;
-mod out;
-mod parts;
 mod texts;
 
 ghost use lib.ListN.{length};
 ghost use Rattle.mudwicket.specs.Held.{Held};
 use input::State;
+use panel::lent;
+use panel::out;
+use panel::told;
 
 // What is lent to every line: the bytes that were read, the answers that were not written yet, room for a command's texts and for its
-// numbers, and how much of it is lent.
+// numbers, how much of it is lent, and the desk, which starts afresh.
 fn main() {
     let mut input = io::large_buffer();
     let mut out = out::buffer();
     let mut texts = texts::buffer();
     let mut numbers = lent::numbers();
     let mut lent = lent::start();
-    run(&mut input, &mut out, &mut texts, &mut numbers, &mut lent);
+    let mut counts = [0u8; limits::SHAPES];
+    let mut corners = [0i32; limits::CORNER_NUMBERS];
+    let mut poses = [0u8; limits::POSE_NUMBERS];
+    let mut offsets = [0i32; limits::OFFSET_NUMBERS];
+    let mut rows = [0u8; limits::ROWS];
+    let mut book = [0u32; limits::BOOK];
+    let mut marks = lent::marks();
+    told::fresh(
+        &mut counts,
+        &mut corners,
+        &mut poses,
+        &mut offsets,
+        &mut rows,
+        &mut book,
+        &mut marks,
+    );
+    run(
+        &mut input,
+        &mut out,
+        &mut texts,
+        &mut numbers,
+        &mut lent,
+        &mut counts,
+        &mut corners,
+        &mut poses,
+        &mut offsets,
+        &mut rows,
+        &mut book,
+        &mut marks,
+    );
 }
 
 // A line or a read a turn. A proved loop has to end, and nothing says that the input does: so the turns are counted down, from a number
@@ -31,14 +60,36 @@ fn run(
     out: &mut [u8],
     texts: &mut [u8],
     numbers: &mut [i32],
-    lent: &mut [usize; 1],
+    lent: &mut [usize; 2],
+    counts: &mut [u8; limits::SHAPES],
+    corners: &mut [i32; limits::CORNER_NUMBERS],
+    poses: &mut [u8; limits::POSE_NUMBERS],
+    offsets: &mut [i32; limits::OFFSET_NUMBERS],
+    rows: &mut [u8; limits::ROWS],
+    book: &mut [u32; limits::BOOK],
+    marks: &mut [u16],
 ) {
     let mut s = input::start();
     let mut at: usize = 0;
     let mut turns = u64::MAX;
     while turns > 0 && s.kind != input::LAST {
         s = input::advance(input, s);
-        at = respond(input, s, out, at, texts, numbers, lent);
+        at = respond(
+            input,
+            s,
+            out,
+            at,
+            texts,
+            numbers,
+            lent,
+            counts,
+            corners,
+            poses,
+            offsets,
+            rows,
+            book,
+            marks,
+        );
         turns -= 1;
     }
     out::flush(out, at);
@@ -52,7 +103,14 @@ fn respond(
     at: usize,
     texts: &mut [u8],
     numbers: &mut [i32],
-    lent: &mut [usize; 1],
+    lent: &mut [usize; 2],
+    counts: &mut [u8; limits::SHAPES],
+    corners: &mut [i32; limits::CORNER_NUMBERS],
+    poses: &mut [u8; limits::POSE_NUMBERS],
+    offsets: &mut [i32; limits::OFFSET_NUMBERS],
+    rows: &mut [u8; limits::ROWS],
+    book: &mut [u32; limits::BOOK],
+    marks: &mut [u16],
 ) -> usize
     requires { ⌜ Held s (length (now input)) ⌝ }
 {
@@ -60,13 +118,22 @@ fn respond(
     if kind == input::MORE {
         return out::flush(out, at);
     }
-    if kind == input::LONG {
-        return out::wrong(out, at);
-    }
-    if kind == input::PASSED {
-        return at;
-    }
     let start = s.start;
     let end = s.end;
-    answer::answer(&input[start..end], out, at, texts, numbers, lent)
+    answer::answer(
+        kind,
+        &input[start..end],
+        out,
+        at,
+        texts,
+        numbers,
+        lent,
+        counts,
+        corners,
+        poses,
+        offsets,
+        rows,
+        book,
+        marks,
+    )
 }

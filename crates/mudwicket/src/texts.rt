@@ -4,12 +4,12 @@ ghost use mathlib.Core.Path.{_≡_};
 ghost use Prim.Native.Nat.{_≤_, _<_, _+_};
 ghost use lib.ListN.{length};
 ghost use Rattle.mudwicket.specs.Held.{Kept};
-use crate::out;
-use crate::parts::Ends;
-use crate::parts::Index;
-use crate::parts::after;
-use crate::parts::read_index;
-use crate::parts::three_words;
+use panel::out;
+use panel::parts::Ends;
+use panel::parts::Index;
+use panel::parts::after;
+use panel::parts::read_index;
+use panel::parts::three_words;
 
 // Room for the two texts of a `line`: each takes two digits a byte of a line that is no longer than this.
 pub fn buffer() -> [u8; 16384]

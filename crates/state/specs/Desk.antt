@@ -1,18 +1,15 @@
--- THE DESK of document 01: its state, when it is in order, and when a row is right.
+-- THE DESK of document 01: its state, when it is in order, and what a command stores.
 -- The state is lent arrays; `Store` of pieces has the shapes and places, and rows, book and marks stand beside it.
 use mathlib.Core.Path.{_≡_}
 use mathlib.Core.List.{List}
-use mathlib.Core.Logic.{_⊎_}
 use Prim.Native.Nat.{ℕ, _+_, _*_, _/_}
 use lib.IntN.{ℤ}
 use lib.ListN.{length, set}
 use lib.Seq.{sets}
 use Rattle.limits.specs.Limits
-use Rattle.space.specs.Verdicts.{VerdictIs}
 use Rattle.rows.specs.Rows.{RowsInOrder, BookInOrder}
 use Rattle.marks.specs.Marks.{InPlaceMarks}
-use Rattle.pieces.specs.Pieces.{Store, PiecesInOrder, pieceAt, axesOf}
-use Rattle.pieces.specs.Boxes.{Apart}
+use Rattle.pieces.specs.Pieces.{Store, PiecesInOrder, axesOf}
 
 pub record Desk : Type 0 where
   pub store : Store
@@ -30,10 +27,6 @@ pub record InOrder (d : Desk) : Type 0 where
   pub marks : InPlaceMarks (axesOf (d .store)) (d .marks)
   pub rows : RowsInOrder (d .store .poses) (d .rows)
   pub book : BookInOrder (d .rows) (d .book)
-
--- "A desk row is 0 exactly when on some axis one high mark's value is below the other's low; otherwise the row is the verdict."
-abbrev pub RowRight : Store → ℕ → ℕ → ℕ → Type 0
-RowRight d low high v = ((v ≡ 0) × Apart d low high) ⊎ ((Apart d low high → ⊥) × VerdictIs (pieceAt d low) (pieceAt d high) v)
 
 -- ---- what a command stores
 -- place p holds the shape s − 1 in turn t at the offset x, y, z; every other shape and place stays

@@ -15,9 +15,10 @@ use Rattle.marks.specs.Promises.{ReorderedMarks}
 use Rattle.pieces.specs.Boxes.{Piece}
 use Rattle.pieces.specs.Pieces.{Store, Sized, Loaded, PiecesInOrder, axesOf}
 use Rattle.pieces.specs.Store.{ranged}
-use Rattle.state.specs.Desk.{Desk, InOrder, RowRight, putAt, emptiedAt}
+use Rattle.state.specs.Desk.{Desk, InOrder, putAt, emptiedAt}
+use Rattle.pairs.specs.Right.{RowRight}
 use Rattle.state.specs.PutLaws.{put-others, put-others-marks, put-taken, put-order, empty-others, empty-others-marks, empty-gone, empty-order}
-use Rattle.state.specs.RowLaws.{right-verdict}
+use Rattle.pairs.specs.RowLaws.{right-verdict}
 
 -- from marks in place for any pieces that agree but for one place, to marks in place for the pieces as they are now
 pub record Renewed (new : Axes) (place : ℕ) (before after : List ℕ) : Type 0 where

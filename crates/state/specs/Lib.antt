@@ -3,4 +3,3 @@ pub mod Handled
 pub mod LoadLaws
 pub mod OrderLaws
 pub mod PutLaws
-pub mod RowLaws

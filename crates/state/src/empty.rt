@@ -5,7 +5,7 @@ ghost use Rattle.limits.specs.Limits;
 ghost use Rattle.state.specs.Desk.{deskOf, InOrder};
 ghost use Rattle.state.specs.Handled.{Emptied};
 use crate::renew::renew_marks;
-use pieces::order::sized_store;
+use ranges::sized_store;
 use rows::clear_place;
 use rows::recount;
 

@@ -4,4 +4,3 @@ pub mod empty;
 pub mod order;
 pub mod put;
 pub mod renew;
-pub mod row;

@@ -6,7 +6,7 @@ ghost use Rattle.pieces.specs.Pieces.{storeOf, axesOf, PiecesInOrder};
 ghost use Rattle.state.specs.Desk.{deskOf, InOrder};
 use marks::in_place_marks;
 use pieces::keys::keys_of;
-use pieces::order::pieces_in_order;
+use ranges::pieces_in_order;
 use rows::book_in_order;
 use rows::rows_in_order;
 

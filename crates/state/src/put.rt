@@ -7,8 +7,8 @@ ghost use Rattle.limits.specs.Limits;
 ghost use Rattle.state.specs.Desk.{deskOf};
 ghost use Rattle.state.specs.Handled.{MayPut, PutDown};
 use crate::renew::renew_marks;
-use crate::row::put_rows;
-use pieces::order::sized_store;
+use pairs::row::put_rows;
+use ranges::sized_store;
 use rows::recount;
 
 // An offset stored.

@@ -6,7 +6,6 @@ use mathlib.Core.Logic.{_⊎_}
 use Prim.Native.Nat.{ℕ, _≤_, _<_}
 use native.Mathlib.Decide.{ℕ-discrete}
 use lib.ListN.{length, take, drop}
-use lib.IntN.{ℤ, pos}
 use Rattle.limits.specs.Limits.{listLength, placedRange, placedReach, directionReach, done}
 use Rattle.limits.specs.Lowest.{Refusal, Lowest, _when_, lowest-once}
 use Rattle.space.specs.declared.Vec3.{Vec3}
@@ -16,6 +15,7 @@ use Rattle.space.specs.Ranges.{Upto}
 use Rattle.space.specs.Verdicts.{Piece, Below, Supported, Balance, VerdictIs, separate, touching, penetrating}
 use Rattle.space.specs.Lists.{LengthFits, InReach}
 use Rattle.space.specs.Exclusion.{verdict-once}
+use Rattle.route.specs.NoPairs.{noPairs}
 use Rattle.walk.specs.declared.Answer.{Answer}
 
 -- 3: "a corner list's length isn't 3 × (1 to 32)"
@@ -28,13 +28,6 @@ OutOfReach A B = (InReach placedReach A → ⊥) ⊎ (InReach placedReach B → 
 
 abbrev pub refusals : Piece → Piece → List Refusal
 refusals A B = listLength when BadLength A B ∷ placedRange when OutOfReach A B ∷ []
-
--- "Fields that a verdict doesn't carry are zero."
-abbrev pub noPair : Pair
-noPair = record { first = 0; second = 0; weight = pos 0 }
-
-abbrev pub noPairs : List Pair
-noPairs = noPair ∷ noPair ∷ noPair ∷ noPair ∷ []
 
 -- the pairs that an answer carries are the first `count` of its four
 abbrev pub carried : Answer → List Pair

@@ -8,21 +8,19 @@ use Prim.Native.Nat.{ℕ, _+_, _≤_, _<_}
 use native.Mathlib.Omega.{arith}
 use native.Mathlib.Nat.{le-refl}
 use lib.Dec.{T}
-use mir.Syntax.{w64}
-use mir.Val.{toZ, ofZ}
 use lib.ListN.{length, take, drop, length-take}
 use lib.IntN.{ℤ, pos, negℤ, _+ℤ_, _-ℤ_, _*ℤ_, *ℤ-zero, +ℤ-idl}
 use lib.Signed.{_≤ℤ_, _<ℤ_, clashℤ}
 use Rattle.ints.specs.Quote.{sides, by-ring}
 use Rattle.ints.specs.Order.{trichotomy, lt→≤ℤ, <ℤ-cancel, ≤ℤ-trans}
-use Rattle.ints.specs.Bounds.{Within, known, within, within-upper, worth, k-back, k-is, k-within}
+use Rattle.ints.specs.Bounds.{Within, known, within, within-upper}
 use Rattle.ints.specs.Sign.{Under, gt-other}
 use Rattle.limits.specs.Decides.{Decides}
 use Rattle.limits.specs.Limits.{weightMost, directionReach, placedReach, placedRange, listLength}
 use Rattle.space.specs.declared.Vec3.{Vec3}
 use Rattle.space.specs.declared.Pair.{Pair}
-use Rattle.space.specs.Vectors.{dot, cross, minus, plus, det, normal, env1, origin}
-use Rattle.space.specs.Ranges.{Upto, pointReach, shiftReach, crossReach, weightReach, upto-le}
+use Rattle.space.specs.Vectors.{dot, det, normal, env1, origin}
+use Rattle.space.specs.Ranges.{Upto, pointReach, shiftReach, weightReach}
 use Rattle.space.specs.Verdicts.{Piece, cornerAt, cornerCount, weighted, Below, Supported, Balance, separate, touching, penetrating}
 use Rattle.space.specs.Lists.{LengthFits, InReach, Reach, Placed}
 use Rattle.portal.specs.declared.Three.{Three}
@@ -31,27 +29,20 @@ use Rattle.portal.specs.Sizes.{bigK, posK, beam, front-under, start, start-turn
 use Rattle.portal.specs.Step.{Setting, Held, Met}
 use Rattle.portal.specs.Exits.{Behind, sum3, w1, w2, wall-some}
 use Rattle.portal.specs.Flat.{Drops, f4}
-use Rattle.walk.specs.declared.support.Point.{Point}
-use Rattle.walk.specs.declared.route.Portal.{Portal}
-use Rattle.walk.specs.declared.route.Ended.{Ended}
-use Rattle.walk.specs.declared.frame.Frame.{Frame}
-use Rattle.walk.specs.declared.gather.Gathered.{Gathered}
+use Rattle.route.specs.declared.support.Point.{Point}
+use Rattle.route.specs.declared.path.Portal.{Portal}
+use Rattle.route.specs.declared.path.Ended.{Ended}
+use Rattle.route.specs.declared.frame.Frame.{Frame}
+use Rattle.route.specs.declared.gather.Gathered.{Gathered}
+use Rattle.route.specs.NoPairs.{noPairs}
+use Rattle.route.specs.Points.{Spread, Tagged, spread-of, below-of, not-above-of, walled-by}
+use Rattle.route.specs.Ends.{Ground, Begun, Walked, Corners, Near, point-upto}
+use Rattle.route.specs.Frames.{Framed, Dropping, framePlaces, Started, origin-upto}
+use Rattle.route.specs.Gather.{baseOf, Gather, Weighed, weight-within, minus-within, gather-none, gather-more, count-grows}
 use Rattle.walk.specs.declared.Answer.{Answer}
-use Rattle.walk.specs.Answers.{noPairs, nothing, BadLength, OutOfReach, Carries, Answers}
-use Rattle.walk.specs.Points.{Spread, Tagged, spread-of, below-of, not-above-of, walled-by}
-use Rattle.walk.specs.Ends.{placesOf, Ground, Begun, Walked, Corners, point-upto}
-use Rattle.walk.specs.Frames.{Framed, Dropping, origin-upto}
-use Rattle.walk.specs.Gather.{baseOf, nothingYet, Pushed, Gather, gather-none, gather-more, count-grows}
+use Rattle.walk.specs.Answers.{nothing, BadLength, OutOfReach, Carries, Answers}
 
-abbrev pub framePlaces : Frame → Three
-framePlaces f = record { a = f .a .at; b = f .b .at; c = f .c .at }
-
--- ---- the portal of a frame
-abbrev pub Started : Frame → Portal → Type 0
-Started f r =
-    ((det (f .a .at) (f .b .at) (f .c .at) <ℤ pos 0) × (r ≡ record { a = f .a; b = f .b; c = f .c }))
-    ⊎ ((pos 0 ≤ℤ det (f .a .at) (f .b .at) (f .c .at)) × (r ≡ record { a = f .a; b = f .c; c = f .b }))
-
+-- ---- what the walks of a frame begin with
 module _ {A B : Piece} {f : Frame} (pa : Placed A) (pb : Placed B) (k : Framed A B f) where
   pub ground : Ground A B (f .widths)
   ground = record { first = pa; second = pb; box = k .box }
@@ -131,21 +122,6 @@ module _ {A B : Piece} {f : Frame} (pa : Placed A) (pb : Placed B) (k : Framed A
       flat u v = by-ring (u ∷ v ∷ env1 n []) (search sides depth 9) refl
 
 -- ---- the weights of a meeting
-pub record Weighed (e : Ended) (r : Gathered) : Type 0 where
-  pub g1 : Gathered
-  pub g2 : Gathered
-  pub g3 : Gathered
-  pub first : Pushed nothingYet (e .last) (pos 0 -ℤ det (e .portal .a .at) (e .portal .b .at) (e .portal .c .at)) g1
-  pub second : Pushed g1 (e .portal .a) (det (e .last .at) (e .portal .b .at) (e .portal .c .at)) g2
-  pub third : Pushed g2 (e .portal .b) (det (e .portal .a .at) (e .last .at) (e .portal .c .at)) g3
-  pub fourth : Pushed g3 (e .portal .c) (det (e .portal .a .at) (e .portal .b .at) (e .last .at)) r
-
-pub weight-within : {a b c : Vec3} → Upto pointReach a → Upto pointReach b → Upto pointReach c → Within weightReach (det a b c)
-weight-within u v w = within (search known depth 15) tt
-
-pub minus-within : {z : ℤ} → Within weightReach z → Within weightReach (pos 0 -ℤ z)
-minus-within w = within (search known depth 9) tt
-
 weight-most : {z : ℤ} → Within weightReach z → z ≤ℤ pos weightMost
 weight-most w = ≤ℤ-trans (within-upper w) (record { le = tt })
 
@@ -322,10 +298,6 @@ module _ {A B : Piece} {f : Frame} {q : Vec3} {v : Three} {e : Ended} (pa : Plac
       (record { flat = walled-by d (s .above); some = s .nonzero })
 
 -- ---- what the functions between are asked with
-pub record Near (e : Ended) : Type 0 where
-  pub portal : Corners (placesOf (e .portal))
-  pub last : Upto pointReach (e .last .at)
-
 pub record MeetingAt (A B : Piece) (f : Frame) (e : Ended) : Type 0 where
   pub framed : Framed A B f
   pub walked : Walked A B (f .widths) origin (framePlaces f) e
@@ -372,13 +344,6 @@ answered-long f e = record { refusal = inl (f, ap (λ r. r .number) e); zeros = 
 pub placed-reach : Reach (pos placedReach)
 placed-reach = record { size = placedReach; is = refl; most = le-refl placedReach }
 
--- a weight as the code holds it
-pub weight-is : {w v : ℤ} → w ≡ v → Within weightReach v → toZ w64 (ofZ w64 w) ≡ v
-weight-is e h = worth (k-back w64 _ (k-is e (k-within h))) tt
-
-pub weight-fits : {w v : ℤ} → w ≡ v → Within weightReach v → Within weightReach (toZ w64 (ofZ w64 w))
-weight-fits e h = subst (Within weightReach) (sym (weight-is e h)) h
-
 pub answer-eq : {n v k : ℕ} {d d′ : Vec3} {ps ps′ : List Pair} → d ≡ d′ → ps ≡ ps′
     → _≡_ {A = Answer} (record { number = n; verdict = v; direction = d; count = k; pairs = ps }) (record { number = n; verdict = v; direction = d′; count = k; pairs = ps′ })
 answer-eq {n} {v} {k} e f = λ i. record { number = n; verdict = v; direction = e i; count = k; pairs = f i }
@@ -386,10 +351,3 @@ answer-eq {n} {v} {k} e f = λ i. record { number = n; verdict = v; direction = 
 -- the same verdict with an equal direction and equal pairs
 pub carries-is : {A B : Piece} {q r : Answer} → q ≡ r → (r .number ≡ 0) × Carries A B r → (q .number ≡ 0) × Carries A B q
 carries-is {A} {B} e h = subst (λ r. (r .number ≡ 0) × Carries A B r) (sym e) h
-
--- the first two of three points' sum, which is small
-pub pair-sum : {a b y : Vec3} → Upto pointReach a → Upto pointReach b → y ≡ plus a b → Upto crossReach y
-pair-sum {a} {b} u v e = subst (Upto crossReach) (sym e) (go a b u v)
-  where
-    go : (a b : Vec3) → Upto pointReach a → Upto pointReach b → Upto crossReach (plus a b)
-    go a b u v = record { ux = within (search known depth 9) tt; uy = within (search known depth 9) tt; uz = within (search known depth 9) tt }

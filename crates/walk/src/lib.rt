@@ -1,24 +1,19 @@
-// The verdict of two corner lists, exact and with witnesses: support, frame, walk, verdict.
-// No tolerance and no limit on the turns: a measure falls with each of them (specs/Ends.antt).
-mod frame;
-mod gather;
-mod route;
-mod support;
-
+// The verdict of two corner lists, exact and with witnesses: two walks at most, and what their ends say.
+// No tolerance and no limit on the turns: a measure falls with each of them (crate `route`, specs/Ends.antt).
 ghost use mathlib.Core.Path.{_≡_};
 ghost use Rattle.space.specs.Vectors.{origin};
 ghost use Rattle.space.specs.Lists.{Placed};
 ghost use Rattle.walk.specs.Answers.{nothing, BadLength, OutOfReach, Carries, Answers};
 ghost use Rattle.walk.specs.Judged.{touchingWith, penetratingWith, MeetingAt, Tells, BothFit, BothNear};
-use frame::Frame;
-use frame::frame_of;
-use frame::frame_places;
-use frame::shift_of;
-use frame::start_of;
-use gather::Gathered;
-use gather::gathered_of;
-use gather::no_pairs;
 use route::Ended;
+use route::Frame;
+use route::Gathered;
+use route::frame_of;
+use route::frame_places;
+use route::gathered_of;
+use route::no_pairs;
+use route::shift_of;
+use route::start_of;
 use route::walk;
 use space::Pair;
 use space::Vec3;

@@ -4,7 +4,7 @@ use mathlib.Core.Path.{subst}
 use native.Mathlib.Omega.{arith}
 use lib.ListN.{length}
 use Rattle.mudwicket.specs.Held.{Behind}
-use Rattle.mudwicket.specs.declared.parts.Index.the-variants.{At}
+use Rattle.panel.specs.declared.parts.Index.the-variants.{At}
 use Rattle.mudwicket.proofs.lists.both_lists.Statement.{statement}
 use Rattle.mudwicket.proofs.lists.both_lists.Tie as tie
 

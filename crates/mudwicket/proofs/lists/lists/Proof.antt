@@ -1,27 +1,14 @@
 -- `mudwicket::lists::lists` stays in range: the numbers that were read stand in the room.
 use borrow.Author.Needs.{needs}
-use Prim.Native.Nat.{ℕ, _≤_}
-use mathlib.Core.Path.{_≡_, subst}
-use mathlib.Core.List.{List}
+use mathlib.Core.Path.{subst}
 use native.Mathlib.Omega.{arith}
-use lib.IntN.{ℤ}
-use lib.ListN.{length, drop}
-use Rattle.words.specs.Words.{Listed}
+use lib.ListN.{length}
+use Rattle.panel.specs.Held.{Upto}
 use Rattle.mudwicket.proofs.lists.lists.Statement.{statement}
 use Rattle.mudwicket.proofs.lists.lists.Tie as tie
 
-numbers-fit : (c : tie.After-n) → c .n .given .0 .0 ≤ length (c .before .before .before .read-numbers .last .1 .1 .0)
-numbers-fit c =
-    let r = c .before .before .before in
-    let a = r .before .before .before .before .before .args in
-    let l = subst (Listed (drop (r .before .before .after .result) (a .line .now)) (a .room .now) (r .read-numbers .last .1 .1 .0)) (c .n .given .1) (r .read-numbers .ensures) in
-    omega (arith, l .3, r .read-numbers .kept .1 .1 .0)
-
-after-requires : tie.Need-after-requires
-after-requires c κs = search needs
-
-read-numbers-requires : tie.Need-read-numbers-requires
-read-numbers-requires c κs = search needs
+numbers-behind-requires : tie.Need-numbers-behind-requires
+numbers-behind-requires c κs = search needs
 
 enum-known-n : tie.Need-enum-known-n
 enum-known-n c = search needs
@@ -48,7 +35,9 @@ part-both-lists-start : tie.Need-part-both-lists-start
 part-both-lists-start c = search needs
 
 part-both-lists-end : tie.Need-part-both-lists-end
-part-both-lists-end c = numbers-fit (c .before .before)
+part-both-lists-end c =
+    let b = c .before .before .before .before .before in
+    omega (arith, subst (Upto (length (b .before .before .before .before .args .room .now))) (c .before .before .n .given .1) (b .numbers-behind .ensures), b .numbers-behind .kept .1 .1 .0)
 
 both-lists-requires : tie.Need-both-lists-requires
 both-lists-requires c κs = search needs
@@ -66,8 +55,7 @@ pub lists-spec : {M : Type 1} → statement M
 lists-spec =
     tie.close
     (tie.spec
-    after-requires
-    read-numbers-requires
+    numbers-behind-requires
     enum-known-n
     enum-told
     wrong-requires

@@ -1,0 +1,157 @@
+// What the desk can be told: start afresh, load, place, move, remove.
+// Each is handed on with its numbers as they stand in the line; the desk refuses what it does not take.
+use crate::lent;
+use crate::lent::at_most;
+use crate::out;
+use desk::Outcome;
+use desk::load::load;
+use desk::moves::move_piece;
+use desk::place::place;
+use desk::remove::remove;
+use desk::start::start;
+
+// A command with its numbers; of a load the first, and how many there are.
+pub enum Told {
+    Fresh,
+    Load(i32, usize),
+    Place(i32, i32, i32, i32, i32, i32),
+    Move(i32, i32, i32, i32, i32),
+    Remove(i32),
+}
+
+// The desk before the first line, in a marks buffer that is longer than its marks.
+pub fn fresh(
+    counts: &mut [u8; limits::SHAPES],
+    corners: &mut [i32; limits::CORNER_NUMBERS],
+    poses: &mut [u8; limits::POSE_NUMBERS],
+    offsets: &mut [i32; limits::OFFSET_NUMBERS],
+    rows: &mut [u8; limits::ROWS],
+    book: &mut [u32; limits::BOOK],
+    marks: &mut [u16],
+) {
+    let m = at_most(limits::MARKS, marks.len());
+    start(
+        counts,
+        corners,
+        poses,
+        offsets,
+        rows,
+        book,
+        &mut marks[0..m],
+    );
+}
+
+// Has the desk do what it is told, with as many marks as are lent.
+pub fn tell(
+    told: Told,
+    numbers: &[i32],
+    lent: &[usize; 2],
+    counts: &mut [u8; limits::SHAPES],
+    corners: &mut [i32; limits::CORNER_NUMBERS],
+    poses: &mut [u8; limits::POSE_NUMBERS],
+    offsets: &mut [i32; limits::OFFSET_NUMBERS],
+    rows: &mut [u8; limits::ROWS],
+    book: &mut [u32; limits::BOOK],
+    marks: &mut [u16],
+    out: &mut [u8],
+    at: usize,
+) -> usize {
+    let m = at_most(lent[lent::MARKS], marks.len());
+    let outcome = change(
+        told,
+        numbers,
+        counts,
+        corners,
+        poses,
+        offsets,
+        rows,
+        book,
+        &mut marks[0..m],
+    );
+    answered(told, outcome, out, at)
+}
+
+fn change(
+    told: Told,
+    numbers: &[i32],
+    counts: &mut [u8; limits::SHAPES],
+    corners: &mut [i32; limits::CORNER_NUMBERS],
+    poses: &mut [u8; limits::POSE_NUMBERS],
+    offsets: &mut [i32; limits::OFFSET_NUMBERS],
+    rows: &mut [u8; limits::ROWS],
+    book: &mut [u32; limits::BOOK],
+    marks: &mut [u16],
+) -> Outcome {
+    match told {
+        Told::Fresh => start(counts, corners, poses, offsets, rows, book, marks),
+        Told::Load(s, n) => load(
+            counts,
+            corners,
+            poses,
+            offsets,
+            rows,
+            book,
+            marks,
+            s,
+            behind_first(numbers, n),
+        ),
+        Told::Place(p, s, t, x, y, z) => place(
+            counts,
+            corners,
+            poses,
+            offsets,
+            rows,
+            book,
+            marks,
+            p,
+            s,
+            t,
+            x,
+            y,
+            z,
+        ),
+        Told::Move(p, t, x, y, z) => move_piece(
+            counts,
+            corners,
+            poses,
+            offsets,
+            rows,
+            book,
+            marks,
+            p,
+            t,
+            x,
+            y,
+            z,
+        ),
+        Told::Remove(p) => remove(counts, corners, poses, offsets, rows, book, marks, p),
+    }
+}
+
+// The corner list of a load: its numbers behind the first.
+fn behind_first(numbers: &[i32], n: usize) -> &[i32] {
+    let end = at_most(n, numbers.len());
+    if end == 0 {
+        return &numbers[0..0];
+    }
+    &numbers[1..end]
+}
+
+fn answered(told: Told, outcome: Outcome, out: &mut [u8], at: usize) -> usize {
+    match outcome {
+        Outcome::Done(count) => done(told, count, out, at),
+        Outcome::Refused(number) => out::refused(out, at, number),
+    }
+}
+
+// A move answers its count as well.
+fn done(told: Told, count: u32, out: &mut [u8], at: usize) -> usize {
+    match told {
+        Told::Move(_, _, _, _, _) => {
+            let next = out::word(out, at, b"0");
+            let next = out::next_number(out, next, count as i64);
+            out::end(out, next)
+        }
+        _ => out::done(out, at),
+    }
+}
