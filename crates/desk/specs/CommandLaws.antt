@@ -1,15 +1,13 @@
 -- The laws of the commands: what each way out of a function has kept or made, that a started desk is in order, and that an answer is the only one.
 -- Witnesses apart, two exits and answers that a command's record allows for the same entry are equal, to the last cell.
 use mathlib.Core.Path.{_≡_, refl, sym, ap, _∙_, subst}
-use mathlib.Core.List.{List, [], _∷_}
+use mathlib.Core.List.{List}
 use mathlib.Core.Logic.{inl, inr}
-use Prim.Native.Nat.{ℕ, _+_, _*_, _<_, _≤_}
+use Prim.Native.Nat.{ℕ, _*_, _<_}
 use native.Mathlib.Decide.{ℕ-discrete}
 use native.Mathlib.Omega.{arith}
-use lib.IntN.{ℤ, pos, negsuc, natAbs}
-use lib.Signed.{_≤ℤ_, _<ℤ_, clashℤ}
-use lib.ListN.{length, getD, replicate, getD-replicate}
-use Rattle.ints.specs.Order.{nn-pos}
+use lib.IntN.{ℤ, pos, natAbs}
+use lib.ListN.{replicate}
 use Rattle.limits.specs.Limits
 use Rattle.limits.specs.Lowest.{Refusal, Lowest, lowest-once}
 use Rattle.rows.specs.Rows.{Lists, BookInOrder, Handled}
@@ -29,7 +27,7 @@ use Rattle.state.specs.Handled.{Emptied, PutDown}
 use Rattle.pairs.specs.RowLaws.{carries-at, right-once}
 use Rattle.state.specs.Desk.{Desk, deskOf, InOrder}
 use Rattle.pairs.specs.Right.{RowRight}
-use Rattle.desk.specs.Commands.{Commanded, Numbered, freshDesk, startRefusals, Started, loadRefusals, Loads, placeRefusals, Places, moveRefusals, MovedBy, Moves, removeRefusals, Removed, contactRefusals, ListsContacts, pairRefusals, Pairs}
+use Rattle.desk.specs.Commands.{Commanded, freshDesk, startRefusals, Started, loadRefusals, Loads, placeRefusals, Places, moveRefusals, MovedBy, Moves, removeRefusals, Removed, contactRefusals, ListsContacts, pairRefusals, Pairs}
 use Rattle.desk.specs.declared.Outcome.{Outcome}
 use Rattle.desk.specs.declared.Outcome.the-variants as outcome
 
@@ -47,21 +45,6 @@ module _ (l : List Refusal) {A B : ℕ → Type 0} {d a b : Desk} (one : (m n : 
   commanded-once (outcome.Done m) (outcome.Refused n) p q = absurd (omega (arith, q .named, lowest-once l {m = 0} {n = n} (p .refusal) (q .refusal)))
   commanded-once (outcome.Refused m) (outcome.Done n) p q = absurd (omega (arith, p .named, lowest-once l {m = m} {n = 0} (p .refusal) (q .refusal)))
   commanded-once (outcome.Refused m) (outcome.Refused n) p q = (p .kept (p .named) ∙ sym (q .kept (q .named)), ap outcome.Refused (lowest-once l {m = m} {n = n} (p .refusal) (q .refusal)))
-
--- ---- numbers that arrive
-pub record Indexed (n : ℕ) (z : ℤ) (i : ℕ) : Type 0 where
-  pub yes : i < n → Numbered n z × (i ≡ natAbs z)
-  pub no : n ≤ i → Numbered n z → ⊥
-
-pub below-zero : (n : ℕ) (z : ℤ) → z <ℤ pos 0 → Indexed n z n
-below-zero n z h = record { yes = λ k. absurd (omega arith); no = λ _ k. clashℤ h (subst (λ (y : ℤ). pos 0 ≤ℤ y) (sym (k .natural)) (nn-pos (natAbs z))) }
-
-natural : (z : ℤ) → pos 0 ≤ℤ z → z ≡ pos (natAbs z)
-natural (pos n) h = refl
-natural (negsuc n) h = clashℤ (record { lt = tt }) h
-
-pub from-zero : (n : ℕ) (z : ℤ) → pos 0 ≤ℤ z → Indexed n z (natAbs z)
-from-zero n z h = record { yes = λ k. (record { natural = natural z h; below = k }, refl); no = λ k m. omega (arith, m .below) }
 
 -- ---- starting afresh
 pub fresh-is : {counts poses rows book marks : List ℕ} {corners offsets : List ℤ} → counts ≡ replicate Limits.shapes 0 → corners ≡ replicate Limits.cornerNumbers (pos 0) → poses ≡ replicate Limits.poseNumbers 0

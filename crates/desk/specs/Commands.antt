@@ -1,15 +1,13 @@
 -- WHAT THE DESK CAN BE TOLD, as document 01 has it: one record for each command and question, between what was lent at entry, at exit, and the answer.
--- Refused: the lowest number that applies, and nothing that was lent has changed. The laws stand in CommandLaws.antt.
+-- Refused: the lowest number that applies, and nothing that was lent has changed. What several commands refuse stands in crate `numbers`, Parts.antt; the laws in CommandLaws.antt.
 use mathlib.Core.Path.{_≡_}
 use mathlib.Core.List.{List, [], _∷_, _++_}
-use mathlib.Core.Logic.{_⊎_}
-use Prim.Native.Nat.{ℕ, _+_, _-_, _*_, _/_, _≤_, _<_}
+use Prim.Native.Nat.{ℕ, _+_, _-_, _*_, _≤_, _<_}
 use lib.IntN.{ℤ, pos, natAbs}
 use lib.ListN.{length, getD, drop, replicate}
 use Rattle.limits.specs.Limits
 use Rattle.limits.specs.Lowest.{Refusal, Lowest, _when_}
 use Rattle.rows.specs.Rows as listing
-use Rattle.rows.specs.Rows.{Taken}
 use Rattle.rows.specs.declared.Listed.{Listed}
 use Rattle.space.specs.Lists.{LengthFits, InReach}
 use Rattle.marks.specs.Marks.{changedMarks}
@@ -17,7 +15,8 @@ use Rattle.pieces.specs.Pieces.{Store, Loaded, axesOf, pieceAt}
 use Rattle.walk.specs.Answers.{nothing, Carries}
 use Rattle.walk.specs.declared.Answer.{Answer}
 use Rattle.state.specs.Desk.{Desk, deskOf, InOrder, loadedAt}
-use Rattle.state.specs.Handled.{OffsetFits, PutDown, Emptied}
+use Rattle.state.specs.Handled.{PutDown, Emptied}
+use Rattle.numbers.specs.Parts.{Numbered, shapeRefusals, emptyRefusals, takenRefusals, placementRefusals, twoRefusals}
 use Rattle.desk.specs.declared.Outcome.{Outcome}
 use Rattle.desk.specs.declared.Outcome.the-variants.{Done, Refused}
 
@@ -43,11 +42,6 @@ pub record Commanded (l : List Refusal) (Accepted : ℕ → Type 0) (before afte
   pub done : numberOf r ≡ 0 → Accepted (countOf r)
   pub named : Named r
 
--- ---- numbers that arrive: one of 0 to n − 1
-pub record Numbered (n : ℕ) (z : ℤ) : Type 0 where
-  pub natural : z ≡ pos (natAbs z)
-  pub below : natAbs z < n
-
 -- ---- "Start afresh: no shapes, places or rows, tallies 0, every mark 65,535." Cells that mean nothing are 0 too
 abbrev pub freshDesk : Desk
 freshDesk =
@@ -66,22 +60,6 @@ startRefusals d = Limits.disorder when (length (d .marks) ≡ Limits.marks → �
 
 abbrev pub Started : Desk → Desk → Outcome → Type 0
 Started before after r = Commanded (startRefusals before) (λ count. (after ≡ freshDesk) × (count ≡ 0)) before after r
-
--- ---- what the commands' refusals have in common: 2 "shape number not 0 to 31", 6 "place: shape not loaded"
-abbrev pub shapeRefusals : Store → ℤ → List Refusal
-shapeRefusals d shape = Limits.shapeNumber when (Numbered Limits.shapes shape → ⊥) ∷ Limits.shapeMissing when (Loaded d (natAbs shape) → ⊥) ∷ []
-
--- 7 "a place number not 0 to 63", 8 "place: already taken"
-abbrev pub emptyRefusals : List ℕ → ℤ → List Refusal
-emptyRefusals poses place = Limits.placeNumber when (Numbered Limits.places place → ⊥) ∷ Limits.placeTaken when (Taken poses (natAbs place)) ∷ []
-
--- 7, and 9 "move, remove, pair: a place is empty"
-abbrev pub takenRefusals : List ℕ → ℤ → List Refusal
-takenRefusals poses place = Limits.placeNumber when (Numbered Limits.places place → ⊥) ∷ Limits.placeEmpty when (Taken poses (natAbs place) → ⊥) ∷ []
-
--- 10 "turn not 0 to 23", 11 "offset number beyond ±65,536"
-abbrev pub placementRefusals : ℤ → ℤ → ℤ → ℤ → List Refusal
-placementRefusals turn x y z = Limits.turnNumber when (Numbered Limits.turns turn → ⊥) ∷ Limits.offsetRange when (OffsetFits x y z → ⊥) ∷ []
 
 -- ---- "Load a shape at a number": 1, 2, 3 "a corner list's length isn't 3 × (1 to 32)", 4 "a shape's corner number is beyond ±65,536", 5 "load: number already loaded"
 abbrev pub newShapeRefusals : Store → ℤ → List ℤ → List Refusal
@@ -143,14 +121,7 @@ pub record ListsContacts (d : Desk) (room after : List ℕ) (r : Listed) : Type 
   pub zeros : 0 < listing.numberOf r → listing.rowsOf r ≡ 0
   pub named : listing.Named r
 
--- ---- "Ask for the pair verdict of two different taken places": 1, 7, 9, 12 "the same place twice"
-abbrev pub twoRefusals : List ℕ → ℤ → ℤ → List Refusal
-twoRefusals poses first second =
-    Limits.placeNumber when ((Numbered Limits.places first → ⊥) ⊎ (Numbered Limits.places second → ⊥))
-    ∷ Limits.placeEmpty when ((Taken poses (natAbs first) → ⊥) ⊎ (Taken poses (natAbs second) → ⊥))
-    ∷ Limits.samePlace when (first ≡ second)
-    ∷ []
-
+-- ---- "Ask for the pair verdict of two different taken places": 1, 7, 9, 12
 abbrev pub pairRefusals : Desk → ℤ → ℤ → List Refusal
 pairRefusals d first second = Limits.disorder when (InOrder d → ⊥) ∷ twoRefusals (d .store .poses) first second
 

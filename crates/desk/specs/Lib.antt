@@ -1,4 +1,3 @@
-pub mod Asked
 pub mod CommandLaws
 pub mod Commands
 pub mod Loading

@@ -2,20 +2,22 @@
 -- A callee sees a signed number through its bits; each law is told that what was handed on is what was handed in.
 use mathlib.Core.Path.{_≡_, refl, sym, ap, _∙_, subst}
 use mathlib.Core.List.{List, [], _++_}
-use mathlib.Core.Logic.{_⊎_, inl, inr}
+use mathlib.Core.Logic.{inl, inr}
 use Prim.Native.Nat.{ℕ, suc, _+_, _*_, _/_, _<_, _≤_}
 use native.Mathlib.Omega.{arith}
 use lib.IntN.{ℤ, pos, natAbs}
 use lib.ListN.{length, getD, set, take, drop}
 use lib.Seq.{sets, sets-eq, paste, paste-suc, take-length}
 use Rattle.limits.specs.Limits
-use Rattle.limits.specs.Lowest.{Refusal, Lowest}
+use Rattle.limits.specs.Lowest.{Lowest}
 use Rattle.space.specs.Lists.{LengthFits, InReach}
 use Rattle.pieces.specs.Pieces.{Store, Sized, Loaded, storeOf}
 use Rattle.state.specs.Desk.{Desk, InOrder, loadedAt}
-use Rattle.desk.specs.Commands.{Numbered, newShapeRefusals, loadRefusals, Loads}
-use Rattle.desk.specs.CommandLaws.{Indexed, refuses, accepts}
-use Rattle.desk.specs.Asked.{Asked, indexed-is}
+use Rattle.numbers.specs.Parts.{Numbered}
+use Rattle.numbers.specs.Index.{Indexed, indexed-is}
+use Rattle.numbers.specs.Asked.{Asked}
+use Rattle.desk.specs.Commands.{newShapeRefusals, loadRefusals, Loads}
+use Rattle.desk.specs.CommandLaws.{refuses, accepts}
 use Rattle.state.specs.LoadLaws.{load-order}
 use Rattle.desk.specs.declared.Outcome.the-variants as outcome
 

@@ -1,9 +1,8 @@
 -- The pair question, from its tests to its record: what the tests have asked, and the answer about the two pieces.
 -- A callee sees a signed number through its bits; each law is told that what was handed on is what was handed in.
-use mathlib.Core.Path.{_≡_, sym, ap, _∙_, subst}
-use mathlib.Core.List.{List}
-use mathlib.Core.Logic.{inr, ⊎-elim}
-use Prim.Native.Nat.{ℕ, _<_}
+use mathlib.Core.Path.{_≡_, sym, subst}
+use mathlib.Core.Logic.{inr}
+use Prim.Native.Nat.{ℕ}
 use native.Mathlib.Omega.{arith}
 use lib.IntN.{ℤ, natAbs}
 use Rattle.limits.specs.Limits
@@ -14,19 +13,11 @@ use Rattle.pieces.specs.Boxes.{Piece}
 use Rattle.walk.specs.Answers.{nothing, Carries}
 use Rattle.walk.specs.declared.Answer.{Answer}
 use Rattle.state.specs.Desk.{Desk, InOrder}
-use Rattle.desk.specs.Commands.{Numbered, twoRefusals, pairRefusals, Pairs}
-use Rattle.desk.specs.CommandLaws.{Indexed, pair-refuses, pair-answers}
-use Rattle.desk.specs.Asked.{Asked, indexed-is}
-
--- what the pair question may go on with
-pub record MayPair (poses : List ℕ) (first second : ℤ) : Type 0 where
-  pub first-place : Numbered Limits.places first
-  pub second-place : Numbered Limits.places second
-  pub first-taken : Taken poses (natAbs first)
-  pub second-taken : Taken poses (natAbs second)
-
-abbrev pub PairAsked : List ℕ → ℤ → ℤ → ℕ → Type 0
-PairAsked poses first second n = Asked (twoRefusals poses first second) (MayPair poses first second) n
+use Rattle.numbers.specs.Parts.{twoRefusals}
+use Rattle.numbers.specs.Index.{Indexed, indexed-is}
+use Rattle.numbers.specs.Asked.{MayPair, PairAsked}
+use Rattle.desk.specs.Commands.{Pairs}
+use Rattle.desk.specs.CommandLaws.{pair-refuses, pair-answers}
 
 module _ (d : Desk) (first second : ℤ) {a b : ℤ} (ea : a ≡ first) (eb : b ≡ second) (o : InOrder d) (n : ℕ) (k : PairAsked (d .store .poses) a b n) where
   pair-asked : PairAsked (d .store .poses) first second n

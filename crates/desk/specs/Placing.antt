@@ -1,16 +1,15 @@
 -- A placing, a move and a removal, from their tests to their records: what each part of the tests has asked, and how the parts make the command's own list.
 -- A callee sees a signed number through its bits; each law is told that what was handed on is what was handed in.
-use mathlib.Core.Path.{_≡_, refl, sym, ap, _∙_, subst}
+use mathlib.Core.Path.{_≡_, refl, sym, subst}
 use mathlib.Core.List.{List, [], _++_}
-use mathlib.Core.Bool.{true}
-use mathlib.Core.Logic.{_⊎_, inl, inr}
+use mathlib.Core.Logic.{inl, inr}
 use Prim.Native.Nat.{ℕ, _+_, _-_, _<_}
 use native.Mathlib.Omega.{arith}
 use lib.IntN.{ℤ, natAbs}
 use Rattle.limits.specs.Limits
 use Rattle.limits.specs.Lowest.{Refusal, Lowest}
 use Rattle.rows.specs.Rows.{Taken}
-use Rattle.marks.specs.Marks.{Axes, OthersStayMarks}
+use Rattle.marks.specs.Marks.{OthersStayMarks}
 use Rattle.marks.specs.Keys.{KeyedMarks}
 use Rattle.marks.specs.Promises.{CountedMarks}
 use Rattle.pieces.specs.Pieces.{Store, Loaded, storeOf, axesOf}
@@ -18,23 +17,12 @@ use Rattle.pieces.specs.Store.{taken-is}
 use Rattle.state.specs.Desk.{Desk, InOrder}
 use Rattle.state.specs.PutLaws.{put-others-marks}
 use Rattle.state.specs.Handled.{OffsetFits, MayPut, PutDown, Emptied, emptied-at}
-use Rattle.desk.specs.Commands.{Numbered, shapeRefusals, emptyRefusals, takenRefusals, placementRefusals, heldAt, MovedBy, placeRefusals, moveRefusals, Places, Moves, Removed}
-use Rattle.desk.specs.CommandLaws.{Indexed, refuses, accepts}
-use Rattle.desk.specs.Asked.{Asked, asked-refused, lowest-first, lowest-then, indexed-is, CellOf}
+use Rattle.numbers.specs.Parts.{Numbered, shapeRefusals, emptyRefusals, takenRefusals, placementRefusals}
+use Rattle.numbers.specs.Index.{Indexed, indexed-is, CellOf}
+use Rattle.numbers.specs.Asked.{Asked, asked-refused, lowest-first, lowest-then, ShapeAsked, EmptyAsked, TakenAsked, PlacementAsked}
+use Rattle.desk.specs.Commands.{heldAt, MovedBy, placeRefusals, moveRefusals, Places, Moves, Removed}
+use Rattle.desk.specs.CommandLaws.{refuses, accepts}
 use Rattle.desk.specs.declared.Outcome.the-variants as outcome
-
--- ---- the parts
-abbrev pub ShapeAsked : List ℕ → ℤ → ℕ → Type 0
-ShapeAsked counts shape n = Asked (shapeRefusals (storeOf counts [] [] []) shape) (Numbered Limits.shapes shape × Loaded (storeOf counts [] [] []) (natAbs shape)) n
-
-abbrev pub EmptyAsked : List ℕ → ℤ → ℕ → Type 0
-EmptyAsked poses place n = Asked (emptyRefusals poses place) (Numbered Limits.places place) n
-
-abbrev pub TakenAsked : List ℕ → ℤ → ℕ → Type 0
-TakenAsked poses place n = Asked (takenRefusals poses place) (Numbered Limits.places place × Taken poses (natAbs place)) n
-
-abbrev pub PlacementAsked : ℤ → ℤ → ℤ → ℤ → ℕ → Type 0
-PlacementAsked turn x y z n = Asked (placementRefusals turn x y z) (Numbered Limits.turns turn × OffsetFits x y z) n
 
 -- ---- what a placing and a move may go on with
 pub record MayPlace (counts : List ℕ) (place shape turn x y z : ℤ) : Type 0 where

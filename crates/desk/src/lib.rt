@@ -1,10 +1,8 @@
 // The desk: load, place, move, remove, ask and list, over state that the caller lends.
 // Every command and question first tests that the desk is in order; a refusal is given before anything is written.
-pub mod asked;
 pub mod contacts;
 pub mod load;
 pub mod moves;
-pub mod number;
 pub mod pair;
 pub mod place;
 pub mod remove;

@@ -10,7 +10,7 @@ ghost use Rattle.state.specs.Desk.{deskOf};
 ghost use Rattle.desk.specs.Commands.{Loads};
 ghost use Rattle.desk.specs.Loading.{LoadAsked};
 use crate::Outcome;
-use crate::number::index_of;
+use numbers::number::index_of;
 use ranges::is_loaded;
 use ranges::sized_store;
 use space::in_reach;

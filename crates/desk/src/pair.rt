@@ -2,8 +2,8 @@
 // The desk is only read.
 ghost use Rattle.state.specs.Desk.{deskOf};
 ghost use Rattle.desk.specs.Commands.{Pairs};
-use crate::asked::pair_refusal;
-use crate::number::index_of;
+use numbers::asked::pair_refusal;
+use numbers::number::index_of;
 use pairs::row::verdict_of;
 use state::order::desk_in_order;
 use walk::Answer;

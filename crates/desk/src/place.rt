@@ -4,11 +4,11 @@ ghost use Rattle.state.specs.Desk.{deskOf};
 ghost use Rattle.desk.specs.Commands.{Places};
 ghost use Rattle.desk.specs.Placing.{PlaceAsked};
 use crate::Outcome;
-use crate::asked::empty_refusal;
-use crate::asked::placement_refusal;
-use crate::asked::shape_refusal;
-use crate::number::cell_of;
-use crate::number::index_of;
+use numbers::asked::empty_refusal;
+use numbers::asked::placement_refusal;
+use numbers::asked::shape_refusal;
+use numbers::number::cell_of;
+use numbers::number::index_of;
 use state::order::desk_in_order;
 use state::put::put_place;
 

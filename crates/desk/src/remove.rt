@@ -3,8 +3,8 @@
 ghost use Rattle.state.specs.Desk.{deskOf};
 ghost use Rattle.desk.specs.Commands.{Removed};
 use crate::Outcome;
-use crate::asked::taken_refusal;
-use crate::number::index_of;
+use numbers::asked::taken_refusal;
+use numbers::number::index_of;
 use state::empty::empty_place;
 use state::order::desk_in_order;
 

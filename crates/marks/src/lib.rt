@@ -1,16 +1,14 @@
 // End marks: document 01's order of marks, kept in one lent buffer of which each axis has its own part.
-// keys.rt makes the numbers that are compared, order_test.rt tests a part, reorder.rt keeps one in place, count.rt counts what a move turns round.
+// keys.rt makes the numbers that are compared, order_test.rt tests a part and reorder.rt keeps one in place.
 ghost use mathlib.Core.Path.{_≡_};
 ghost use Prim.Native.Nat.{_<_};
 ghost use lib.ListN.{length, replicate};
 ghost use Rattle.limits.specs.Limits;
-ghost use Rattle.marks.specs.Promises.{TestedMarks, ReorderedMarks, CountedMarks};
-use count::count_changed;
+ghost use Rattle.marks.specs.Promises.{TestedMarks, ReorderedMarks};
 use order_test::in_place;
 use reorder::fill_up;
 use reorder::reorder;
 
-pub mod count;
 pub mod keys;
 pub mod order_test;
 pub mod reorder;
@@ -62,23 +60,4 @@ pub fn reorder_marks(
     reorder(&mut marks[0..START_Y], x, place);
     reorder(&mut marks[START_Y..START_Z], y, place);
     reorder(&mut marks[START_Z..limits::MARKS], z, place);
-}
-
-// How many pairs of a mark of the moved place and a mark of another change their order, over the three axes.
-pub fn count_marks(
-    old_x: &[u32; limits::AXIS_MARKS],
-    old_y: &[u32; limits::AXIS_MARKS],
-    old_z: &[u32; limits::AXIS_MARKS],
-    new_x: &[u32; limits::AXIS_MARKS],
-    new_y: &[u32; limits::AXIS_MARKS],
-    new_z: &[u32; limits::AXIS_MARKS],
-    place: usize,
-) -> u32
-    requires { ⌜ place < Limits.places ⌝ }
-    ensures { λ r. ⌜ CountedMarks (now («old_x» .entry)) (now («old_y» .entry)) (now («old_z» .entry)) (now («new_x» .entry)) (now («new_y» .entry)) (now («new_z» .entry)) place r ⌝ }
-{
-    let x = count_changed(old_x, new_x, place);
-    let y = count_changed(old_y, new_y, place);
-    let z = count_changed(old_z, new_z, place);
-    x + y + z
 }

@@ -1,17 +1,17 @@
 // The answer to a line, by its command.
 // What the desk has a part in is lent the desk; the rest is not.
-use crate::floats;
 use crate::input;
-use crate::lists;
-use crate::texts;
+use lines::lent;
+use lines::out;
 use panel::asked;
 use panel::command::Command;
 use panel::command::Other;
 use panel::command::read;
-use panel::lent;
-use panel::out;
 use panel::spoil;
 use panel::told;
+use readings::floats;
+use readings::lists;
+use readings::texts;
 
 // Puts the answer to what a turn found, and hands back the next place.
 pub fn answer(

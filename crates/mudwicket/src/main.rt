@@ -1,17 +1,15 @@
 // The desk at a command line: reads commands from standard input, one a line, and writes one line of answer for each.
 // `run` goes from line to line; `answer::answer` finds the command of a line, and hands it to the function that answers it.
 mod answer;
-mod floats;
 mod input;
-mod lists;
-mod texts;
 
 ghost use lib.ListN.{length};
 ghost use Rattle.mudwicket.specs.Held.{Held};
 use input::State;
-use panel::lent;
-use panel::out;
+use lines::lent;
+use lines::out;
 use panel::told;
+use readings::texts;
 
 // What is lent to every line: the bytes that were read, the answers that were not written yet, room for a command's texts and for its
 // numbers, how much of it is lent, and the desk, which starts afresh.

@@ -1,14 +1,14 @@
 // What the desk can be asked: the pair of two places, the contacts, the rows, the tallies, the marks, and a report for people.
 // The desk is only read.
 ghost use Prim.Native.Nat.{_<_};
-use crate::lent;
-use crate::lent::at_most;
-use crate::out;
 use crate::report::contact;
 use crate::report::report;
-use crate::verdicts::pair_answer;
 use desk::contacts::contacts;
 use desk::pair::pair;
+use lines::lent;
+use lines::lent::at_most;
+use lines::out;
+use lines::verdicts::pair_answer;
 use rows::Listed;
 use state::order::desk_in_order;
 

@@ -1,11 +1,11 @@
 // From a line to its command: a variant of `Command`, its word below, and the arm that answers it.
 // The desk's commands carry their numbers, so a line that is none of them is found before the desk sees it.
 use crate::asked::Asked;
-use crate::parts::Index;
-use crate::parts::numbers_behind;
 use crate::spoil::Cell;
 use crate::spoil::cell_of;
 use crate::told::Told;
+use lines::parts::Index;
+use lines::parts::numbers_behind;
 
 pub enum Command {
     Tell(Told),

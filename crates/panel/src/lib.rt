@@ -2,10 +2,6 @@
 // Nothing here decides: what is right is said of the functions of the crates below, and here only that all stays in range and ends.
 pub mod asked;
 pub mod command;
-pub mod lent;
-pub mod out;
-pub mod parts;
 mod report;
 pub mod spoil;
 pub mod told;
-pub mod verdicts;

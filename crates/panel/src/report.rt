@@ -2,7 +2,7 @@
 // It can be fired where no two pieces touch or overlap: glazed pieces that do fuse for good.
 ghost use Prim.Native.Nat.{_≤_};
 use crate::asked::each_row;
-use crate::out;
+use lines::out;
 
 // The report of a desk in order.
 pub fn report(

@@ -1,10 +1,10 @@
 // `spoil PART I V` puts V into cell I of a lent part as it stands, so that a script can hand in a desk that is not in order.
 // It is no command where there is no such cell or V does not fit it.
-use crate::out;
-use crate::parts::Index;
-use crate::parts::not_negative;
-use crate::parts::number_at;
-use crate::parts::numbers_behind;
+use lines::out;
+use lines::parts::Index;
+use lines::parts::not_negative;
+use lines::parts::number_at;
+use lines::parts::numbers_behind;
 
 // A cell of a part, and what is put there.
 pub enum Cell {

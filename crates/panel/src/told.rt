@@ -1,14 +1,14 @@
 // What the desk can be told: start afresh, load, place, move, remove.
 // Each is handed on with its numbers as they stand in the line; the desk refuses what it does not take.
-use crate::lent;
-use crate::lent::at_most;
-use crate::out;
 use desk::Outcome;
 use desk::load::load;
 use desk::moves::move_piece;
 use desk::place::place;
 use desk::remove::remove;
 use desk::start::start;
+use lines::lent;
+use lines::lent::at_most;
+use lines::out;
 
 // A command with its numbers; of a load the first, and how many there are.
 pub enum Told {

@@ -8,12 +8,14 @@ use native.Mathlib.Omega.{arith}
 use native.Mathlib.Numerals.{add-one}
 use mir.Syntax.{w64}
 use mir.Val.{toZ, ofZ}
+use mir.Facts.{sfits-lit}
 use lib.ListN.{length, getD, set, take, drop, length-set}
 use lib.Seq.{take-suc-set}
 use lib.IntN.{ℤ, pos, _+ℤ_, _-ℤ_, _*ℤ_, +ℤ-idl, +ℤ-idr, +ℤ-assoc, zero-*ℤ}
 use lib.Signed.{_≤ℤ_, _<ℤ_, clashℤ}
 use Rattle.ints.specs.Order.{trichotomy, lt-succ}
-use Rattle.ints.specs.Bounds.{Within, known, within, worth, k-back, k-is, k-within}
+use Rattle.ints.specs.Bounds.{Within, known, within, worth, fits, k-back, k-is, k-within}
+use Rattle.ints.specs.Tests.{same-bits}
 use Rattle.ints.specs.Sign.{lt-other, gt-other}
 use Rattle.limits.specs.Limits.{weightMost}
 use Rattle.space.specs.declared.Vec3.{Vec3}
@@ -180,3 +182,7 @@ weight-is e h = worth (k-back w64 _ (k-is e (k-within h))) tt
 
 pub weight-fits : {w v : ℤ} → w ≡ v → Within weightReach v → Within weightReach (toZ w64 (ofZ w64 w))
 weight-fits e h = subst (Within weightReach) (sym (weight-is e h)) h
+
+-- a number that is tested for 0 by its bits
+pub zero-bits : {z : ℤ} → Within 679395106750464000 z → ofZ w64 z ≡ 0 → z ≡ pos 0
+zero-bits w e = same-bits {w = w64} (fits (k-within w) tt) (sfits-lit tt) e

@@ -9,7 +9,7 @@ use native.Mathlib.Numerals.{add-one}
 use lib.IntN.{ℤ, pos, negsuc}
 use lib.ListN.{length, getD, take, drop, length-append, length-take, length-drop}
 use Rattle.rows.specs.Cells.{by-less}
-use Rattle.desk.specs.CommandLaws.{Indexed}
+use Rattle.numbers.specs.Index.{Indexed}
 use Rattle.runs.specs.Log.{Command, start, load, place, move, remove}
 
 abbrev pub codeNumbers : ℕ

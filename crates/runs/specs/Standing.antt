@@ -19,14 +19,15 @@ use Rattle.rows.specs.Counting.{zero-at}
 use Rattle.rows.specs.Handling.{pair-stayed, handled-right, handled-other}
 use Rattle.pieces.specs.Pieces.{Store, Sized, Loaded, turnAt, offsetAt}
 use Rattle.pieces.specs.Store.{SameAt}
-use Rattle.desk.specs.Asked.{Positive}
+use Rattle.numbers.specs.Asked.{Positive}
 use Rattle.state.specs.Desk.{Desk, InOrder, putAt, emptiedAt, loadedIn, loadedAt}
 use Rattle.pairs.specs.Right.{RowRight}
 use Rattle.state.specs.Handled.{PutDown, Emptied}
 use Rattle.state.specs.PutLaws.{put-same, put-others, put-shape, put-turn, put-x, put-y, put-z, empty-same, empty-others, empty-gone}
 use Rattle.state.specs.LoadLaws.{load-same, load-count, load-number, load-count-here, load-number-here}
 use Rattle.pairs.specs.RowLaws.{right-same}
-use Rattle.desk.specs.Commands.{Numbered, freshDesk}
+use Rattle.numbers.specs.Parts.{Numbered}
+use Rattle.desk.specs.Commands.{freshDesk}
 use Rattle.desk.specs.CommandLaws.{fresh-order}
 use Rattle.runs.specs.Log.{Spot, free, held, Plan, nothing, with-at}
 use Rattle.runs.specs.Reached.{ShapeIs, PieceIs, PlaceIs, Holds}

@@ -32,12 +32,12 @@ use Rattle.portal.specs.Flat.{Drops, f4}
 use Rattle.route.specs.declared.support.Point.{Point}
 use Rattle.route.specs.declared.path.Portal.{Portal}
 use Rattle.route.specs.declared.path.Ended.{Ended}
-use Rattle.route.specs.declared.frame.Frame.{Frame}
+use Rattle.frames.specs.declared.frame.Frame.{Frame}
 use Rattle.route.specs.declared.gather.Gathered.{Gathered}
 use Rattle.route.specs.NoPairs.{noPairs}
 use Rattle.route.specs.Points.{Spread, Tagged, spread-of, below-of, not-above-of, walled-by}
 use Rattle.route.specs.Ends.{Ground, Begun, Walked, Corners, Near, point-upto}
-use Rattle.route.specs.Frames.{Framed, Dropping, framePlaces, Started, origin-upto}
+use Rattle.frames.specs.Frames.{Framed, Dropping, framePlaces, Started, origin-upto}
 use Rattle.route.specs.Gather.{baseOf, Gather, Weighed, weight-within, minus-within, gather-none, gather-more, count-grows}
 use Rattle.walk.specs.declared.Answer.{Answer}
 use Rattle.walk.specs.Answers.{nothing, BadLength, OutOfReach, Carries, Answers}

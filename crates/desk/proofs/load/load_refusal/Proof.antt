@@ -8,8 +8,8 @@ use Rattle.limits.specs.Limits
 use Rattle.limits.specs.Decides.{unless-taken, unless-left}
 use mathlib.Core.List.{[]}
 use Rattle.pieces.specs.Pieces.{Loaded, storeOf}
-use Rattle.desk.specs.CommandLaws.{Indexed}
-use Rattle.desk.specs.Asked.{asked-refused, asked-passed}
+use Rattle.numbers.specs.Index.{Indexed}
+use Rattle.numbers.specs.Asked.{asked-refused, asked-passed}
 use borrow.Author.Needs.{needs}
 use Rattle.desk.proofs.load.load_refusal.Statement.{statement}
 use Rattle.desk.proofs.load.load_refusal.Tie as tie

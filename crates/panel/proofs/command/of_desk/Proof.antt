@@ -3,7 +3,7 @@ use borrow.Author.Needs.{needs}
 use mathlib.Core.Path.{subst}
 use native.Mathlib.Omega.{arith}
 use lib.ListN.{length}
-use Rattle.panel.specs.Held.{Upto}
+use Rattle.lines.specs.Held.{Upto}
 use Rattle.panel.proofs.command.of_desk.Statement.{statement}
 use Rattle.panel.proofs.command.of_desk.Tie as tie
 

@@ -3,8 +3,7 @@ use mathlib.Core.Path.{ap}
 use mir.Syntax.{w64}
 use mir.Val.{ofZ}
 use Rattle.ints.specs.Bounds.{worth, k-back, k-within, within-le}
-use Rattle.route.specs.Frames.{zero-bits}
-use Rattle.route.specs.Gather.{push-none, push-some}
+use Rattle.route.specs.Gather.{push-none, push-some, zero-bits}
 use borrow.Author.Needs.{needs}
 use Rattle.route.proofs.gather.push.Statement.{statement}
 use Rattle.route.proofs.gather.push.Tie as tie

@@ -1,0 +1,22 @@
+use Rattle.ints.specs.Bounds.{within-le}
+use Rattle.route.specs.Gather.{zero-bits}
+use Rattle.frames.specs.Frames.{axis-last}
+use mathlib.Core.Path.{ap}
+use mir.Syntax.{w64}
+use mir.Val.{ofZ}
+use Rattle.frames.proofs.frame.axis_of.Statement.{statement}
+use Rattle.frames.proofs.frame.axis_of.Tie as tie
+
+-- `route::axis_of`: the tests compare bits, and a field's bits are its number.
+
+returns : tie.Need-returns
+returns c = record { other = λ f e. c .if1 .taken (ap (ofZ w64) e) }
+
+returns-2 : tie.Need-returns-2
+returns-2 c = record { other = λ f e. c .if2 .taken (ap (ofZ w64) e) }
+
+returns-3 : tie.Need-returns-3
+returns-3 c = axis-last (zero-bits (within-le tt (c .before .before .before .before .pre .ux)) (c .before .if1 .left)) (zero-bits (within-le tt (c .before .before .before .before .pre .uy)) (c .if2 .left))
+
+pub axis-of-spec : {M : Type 1} → statement M
+axis-of-spec = tie.close (tie.spec returns returns-2 returns-3)

@@ -1,0 +1,32 @@
+-- `lines::parts::not_negative` stays in range: a number that is not below zero is its own magnitude.
+use borrow.Author.Needs.{needs}
+use mathlib.Core.Path.{_≡_, sym, ap, _∙_, subst}
+use mathlib.Core.Bool.{false, false≢true}
+use native.Mathlib.Omega.{arith}
+use lib.Dec.{T}
+use lib.IntN.{ℤ, pos, negsuc, natAbs}
+use lib.Signed.{ltZ, nonNeg}
+use mir.Syntax.{w32, w64}
+use mir.Val.{Fits, SFits}
+use mir.Facts.{toZ-ofZ}
+use Rattle.lines.proofs.parts.not_negative.Statement.{statement}
+use Rattle.lines.proofs.parts.not_negative.Tie as tie
+
+abbrev Natural : ℤ → Type 0
+Natural z = T (nonNeg z) × Fits w64 (natAbs z)
+
+from-zero : (n : ℤ) → SFits w32 n → ltZ n (pos 0) ≡ false → Natural n
+from-zero (pos n) f t = (tt, record { fits = omega (arith, f .sfits) })
+from-zero (negsuc n) f t = absurd (false≢true (sym t))
+
+returns : tie.Need-returns
+returns c = search needs
+
+cast-t3 : tie.Need-cast-t3
+cast-t3 c = let e = toZ-ofZ (c .before .fits .v) in subst Natural (sym e) (from-zero _ (c .before .fits .v) (ap (λ z. ltZ z (pos 0)) (sym e) ∙ c .if1 .left))
+
+returns-2 : tie.Need-returns-2
+returns-2 c = search needs
+
+pub not-negative-spec : {M : Type 1} → statement M
+not-negative-spec = tie.close (tie.spec returns cast-t3 returns-2)

@@ -1,0 +1,71 @@
+-- Refusals asked for part by part: what one part's number says, and how the parts make the whole list of a command.
+-- A part that finds nothing hands on what it has found to hold.
+use mathlib.Core.Path.{_≡_, sym}
+use mathlib.Core.List.{List, [], _∷_, _++_}
+use mathlib.Core.Logic.{inl, inr}
+use mathlib.Core.Bool.{Bool}
+use Prim.Native.Nat.{ℕ, _<_}
+use native.Mathlib.Omega.{arith}
+use lib.IntN.{ℤ, natAbs}
+use Rattle.limits.specs.Limits
+use Rattle.limits.specs.Decides.{Decides}
+use Rattle.limits.specs.Lowest.{Refusal, Lowest}
+use Rattle.rows.specs.Rows.{Taken}
+use Rattle.pieces.specs.Pieces.{Loaded, storeOf}
+use Rattle.state.specs.Handled.{OffsetFits}
+use Rattle.numbers.specs.Parts.{Numbered, shapeRefusals, emptyRefusals, takenRefusals, placementRefusals, twoRefusals}
+
+-- n is the lowest of the part's refusals, and where it is none, `Given` holds
+pub record Asked (l : List Refusal) (Given : Type 0) (n : ℕ) : Type 0 where
+  pub refusal : Lowest l n
+  pub given : n ≡ 0 → Given
+
+pub asked-refused : {l : List Refusal} {G : Type 0} {n : ℕ} → Lowest l n → 0 < n → Asked l G n
+asked-refused h k = record { refusal = h; given = λ e. absurd (omega arith) }
+
+pub asked-passed : {l : List Refusal} {G : Type 0} → Lowest l 0 → G → Asked l G 0
+asked-passed h g = record { refusal = h; given = λ _. g }
+
+-- ---- the parts
+abbrev pub ShapeAsked : List ℕ → ℤ → ℕ → Type 0
+ShapeAsked counts shape n = Asked (shapeRefusals (storeOf counts [] [] []) shape) (Numbered Limits.shapes shape × Loaded (storeOf counts [] [] []) (natAbs shape)) n
+
+abbrev pub EmptyAsked : List ℕ → ℤ → ℕ → Type 0
+EmptyAsked poses place n = Asked (emptyRefusals poses place) (Numbered Limits.places place) n
+
+abbrev pub TakenAsked : List ℕ → ℤ → ℕ → Type 0
+TakenAsked poses place n = Asked (takenRefusals poses place) (Numbered Limits.places place × Taken poses (natAbs place)) n
+
+abbrev pub PlacementAsked : ℤ → ℤ → ℤ → ℤ → ℕ → Type 0
+PlacementAsked turn x y z n = Asked (placementRefusals turn x y z) (Numbered Limits.turns turn × OffsetFits x y z) n
+
+-- what the pair question may go on with
+pub record MayPair (poses : List ℕ) (first second : ℤ) : Type 0 where
+  pub first-place : Numbered Limits.places first
+  pub second-place : Numbered Limits.places second
+  pub first-taken : Taken poses (natAbs first)
+  pub second-taken : Taken poses (natAbs second)
+
+abbrev pub PairAsked : List ℕ → ℤ → ℤ → ℕ → Type 0
+PairAsked poses first second n = Asked (twoRefusals poses first second) (MayPair poses first second) n
+
+-- ---- laws
+-- "0 is done": no refusal has that number
+abbrev pub Positive : List Refusal → Type 0
+Positive [] = Unit {0}
+Positive (r ∷ rest) = (0 < r .number) × Positive rest
+
+-- the first part decides where it refuses, and else the rest does
+pub lowest-first : (l k : List Refusal) {n : ℕ} → Lowest l n → 0 < n → Lowest (l ++ k) n
+lowest-first [] k h z = absurd (omega arith)
+lowest-first (r ∷ l) k (inl h) z = inl h
+lowest-first (r ∷ l) k (inr h) z = inr (h .0, lowest-first l k (h .1) z)
+
+pub lowest-then : (l k : List Refusal) (n : ℕ) → Positive l → Lowest l 0 → Lowest k n → Lowest (l ++ k) n
+lowest-then [] k n p h m = m
+lowest-then (r ∷ l) k n p (inl h) m = absurd (omega (arith, h .1, p .0))
+lowest-then (r ∷ l) k n p (inr h) m = inr (h .0, lowest-then l k n (p .1) (h .1) m)
+
+-- an offset that was handed on is the one that was handed in
+pub offset-handed : {b : Bool} {u v w x y z : ℤ} → u ≡ x → v ≡ y → w ≡ z → Decides b (OffsetFits u v w) → Decides b (OffsetFits x y z)
+offset-handed {b} e f g d = rw (sym e, sym f, sym g) d
