@@ -1,3 +1,4 @@
+-- `frames::axis_of`: the tests compare bits, and a field's bits are its number.
 use Rattle.ints.specs.Bounds.{within-le}
 use Rattle.route.specs.Gather.{zero-bits}
 use Rattle.frames.specs.Frames.{axis-last}
@@ -6,8 +7,6 @@ use mir.Syntax.{w64}
 use mir.Val.{ofZ}
 use Rattle.frames.proofs.frame.axis_of.Statement.{statement}
 use Rattle.frames.proofs.frame.axis_of.Tie as tie
-
--- `route::axis_of`: the tests compare bits, and a field's bits are its number.
 
 returns : tie.Need-returns
 returns c = record { other = λ f e. c .if1 .taken (ap (ofZ w64) e) }

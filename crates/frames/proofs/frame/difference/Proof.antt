@@ -1,4 +1,4 @@
--- `route::difference`: the two corners' difference, with their numbers.
+-- `frames::difference`: the two corners' difference, with their numbers.
 use mathlib.Core.Path.{ap₂, _∙_}
 use Rattle.space.specs.Vectors.{minus}
 use Rattle.frames.specs.Frames.{point-eq}

@@ -1,4 +1,4 @@
--- `route::in_a_plane`: the frame of the definition, at the axis that was found.
+-- `frames::in_a_plane`: the frame of the definition, at the axis that was found.
 use mathlib.Core.Path.{refl, ap, _∙_}
 use Rattle.space.specs.Vectors.{opposite}
 use Rattle.space.specs.Ranges.{upto-le}

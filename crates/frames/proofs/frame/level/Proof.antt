@@ -1,4 +1,4 @@
--- `route::level`: three dots, each tested for 0 by its bits.
+-- `frames::level`: three dots, each tested for 0 by its bits.
 use mathlib.Core.Path.{refl, sym, ap, _∙_, subst}
 use mir.Syntax.{w64}
 use mir.Val.{ofZ}

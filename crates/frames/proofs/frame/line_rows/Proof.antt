@@ -1,4 +1,4 @@
--- `route::line_rows`: nine numbers, each known by the range of the vector.
+-- `frames::line_rows`: nine numbers, each known by the range of the vector.
 use Rattle.space.specs.Ranges.{made}
 use Rattle.frames.specs.Frames.{rows-made}
 use Rattle.ints.specs.Bounds.{known, fits}

@@ -1,4 +1,4 @@
--- `route::next_axis`: 0, 1, 2 and round.
+-- `frames::next_axis`: 0, 1, 2 and round.
 use Rattle.frames.specs.Frames.{next-rest}
 use borrow.Author.Needs.{needs}
 use Rattle.frames.proofs.frame.next_axis.Statement.{statement}

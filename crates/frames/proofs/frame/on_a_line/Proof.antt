@@ -1,4 +1,4 @@
--- `route::on_a_line`: the frame of the definition, at the axis that was found.
+-- `frames::on_a_line`: the frame of the definition, at the axis that was found.
 use mathlib.Core.Path.{_≡_, refl, ap, ap₂, _∙_}
 use Rattle.space.specs.Vectors.{plus, minus, cross}
 use Rattle.space.specs.Ranges.{upto-le}

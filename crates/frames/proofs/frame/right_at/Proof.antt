@@ -1,4 +1,4 @@
--- `route::right_at`: by the test that the definition makes.
+-- `frames::right_at`: by the test that the definition makes.
 use borrow.Author.Tests.{lt-ltb, le-ltb}
 use Rattle.frames.proofs.frame.right_at.Statement.{statement}
 use Rattle.frames.proofs.frame.right_at.Tie as tie

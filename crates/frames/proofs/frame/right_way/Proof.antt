@@ -1,4 +1,4 @@
--- `route::right_way`: the sign of the portal's determinant.
+-- `frames::right_way`: the sign of the portal's determinant.
 use mathlib.Core.Path.{ap}
 use lib.IntN.{pos}
 use lib.Signed.{ltZ}

@@ -1,4 +1,4 @@
--- `route::seek`: every difference before turn k of the scan is level; the loop ends at the first that is not.
+-- `frames::seek`: every difference before turn k of the scan is level; the loop ends at the first that is not.
 use mathlib.Core.Path.{sym, subst}
 use Prim.Native.Nat.{ℕ, _+_, _-_, _≤_, _<_}
 use native.Mathlib.Omega.{arith}

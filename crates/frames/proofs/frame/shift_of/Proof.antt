@@ -1,4 +1,4 @@
--- `route::shift_of`: two sums.
+-- `frames::shift_of`: two sums.
 use mathlib.Core.Path.{ap, _∙_}
 use Rattle.space.specs.Vectors.{plus}
 use Rattle.space.specs.Ranges.{upto-le}

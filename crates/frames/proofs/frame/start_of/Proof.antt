@@ -1,4 +1,4 @@
--- `route::start_of`: the frame's three points, or two of them exchanged.
+-- `frames::start_of`: the frame's three points, or two of them exchanged.
 use mathlib.Core.Path.{refl, sym, ap, _∙_, subst}
 use mathlib.Core.Logic.{inl, inr}
 use lib.IntN.{pos}

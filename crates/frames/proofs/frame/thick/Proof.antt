@@ -1,4 +1,4 @@
--- `route::thick`: the sum, with the same corners.
+-- `frames::thick`: the sum, with the same corners.
 use Rattle.frames.specs.Frames.{point-eq}
 use borrow.Author.Needs.{needs}
 use Rattle.frames.proofs.frame.thick.Statement.{statement}

@@ -1,4 +1,4 @@
--- `route::unit`: one step along axis j.
+-- `frames::unit`: one step along axis j.
 use mathlib.Core.Path.{sym, ap}
 use Rattle.ints.specs.Bounds.{known, within}
 use Rattle.portal.specs.Flat.{unit}
