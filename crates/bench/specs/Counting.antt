@@ -8,8 +8,8 @@ use lib.Dec.{eqb, ltb}
 use lib.IntN.{ℤ}
 use lib.Signed.{ltZ}
 use Rattle.limits.specs.Limits
-use Rattle.marks.specs.Marks.{Axis, oneIf, placeOf, sideOf, lowMark, highMark, valueOf, earlier, crossed, isOther, changed, Agree}
-use Rattle.marks.specs.Counts.{sum-same, and-false}
+use Rattle.marks.specs.Marks.{Axis, placeOf, sideOf, lowMark, highMark, valueOf, earlier, crossed, isOther, changed, Agree}
+use Rattle.ints.specs.Counts.{oneIf, sum-same, and-false}
 
 value-same : {a b : Axis} → Agree a b → (m : ℕ) → m < Limits.axisMarks → a .taken (placeOf m) ≡ true → valueOf a m ≡ valueOf b m
 value-same {a} {b} g m l t = ap₂ (λ (u v : ℤ). cond (eqb (sideOf m) 0) u v) (g .low (placeOf m) (omega arith) t) (g .high (placeOf m) (omega arith) t)

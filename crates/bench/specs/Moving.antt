@@ -8,14 +8,14 @@ use native.Mathlib.Omega.{arith}
 use borrow.Author.Tests.{ltb-true, le-ltb}
 use lib.Dec.{eqb, ltb}
 use lib.ListN.{getD}
-use lib.IntN.{ℤ, pos, _+ℤ_}
+use lib.IntN.{pos, _+ℤ_}
 use Rattle.limits.specs.Limits
 use Rattle.marks.specs.Marks.{axisOf, changed, changedMarks, Agree}
 use Rattle.marks.specs.Bench.{boxes, before, after, count-is}
 use Rattle.rows.specs.Cells.{by-same}
 use Rattle.pieces.specs.Pieces.{Store, Sized, takenAt, axesOf, lowAt, highAt, leastTo, greatestTo}
 use Rattle.pieces.specs.Store.{SameAt, taken-is, empty-is}
-use Rattle.state.specs.PutLaws.{put-same}
+use Rattle.handling.specs.PutLaws.{put-same}
 use Rattle.bench.specs.Table.{B, placed, HoldsThree, moved}
 use Rattle.bench.specs.Holding.{lowOf, highOf, low-is, high-is}
 use Rattle.bench.specs.Counting.{changed-same}

@@ -10,11 +10,11 @@ use lib.IntN.{ℤ, pos}
 use Rattle.limits.specs.Limits
 use Rattle.space.specs.Lists.{LengthFits}
 use Rattle.rows.specs.Cells.{by-same}
-use Rattle.rows.specs.Counting.{zero-at}
+use Rattle.tallies.specs.Counting.{zero-at}
 use Rattle.pieces.specs.Pieces.{Store, Sized, cornersOf, shapeNumber}
 use Rattle.pieces.specs.Store.{SameAt}
 use Rattle.state.specs.Desk.{putAt}
-use Rattle.state.specs.PutLaws.{put-same, put-shape, put-turn, put-x, put-y, put-z, put-taken}
+use Rattle.handling.specs.PutLaws.{put-same, put-shape, put-turn, put-x, put-y, put-z, put-taken}
 use Rattle.bench.specs.Table.{B, Holds, HoldsThree}
 
 -- ---- what a place holds

@@ -12,7 +12,8 @@ use Rattle.walk.specs.Answers as pair
 use Rattle.walk.specs.declared.Answer.{Answer}
 use Rattle.blanks.specs.Blanks.{corner, boxCorners, pieceCorners}
 use Rattle.marks.specs.Marks.{changedMarks}
-use Rattle.rows.specs.Rows.{Taken, PairOf, rowAt, RowsInOrder, contacts}
+use Rattle.rows.specs.Rows.{Taken, PairOf, rowAt, RowsInOrder}
+use Rattle.listing.specs.Contacts.{contacts}
 use Rattle.pieces.specs.Pieces.{Store, Sized, countAt, shapeAt, shapeNumber, turnAt, offsetAt, axesOf}
 use Rattle.pieces.specs.Boxes.{Apart}
 use Rattle.state.specs.Desk.{putAt}

@@ -6,7 +6,8 @@ use Prim.Native.Nat.{ℕ, zero, suc, _<_}
 use native.Mathlib.Omega.{arith}
 use lib.ListN.{length, set, replicate, length-set, length-replicate, getD-replicate}
 use Rattle.limits.specs.Limits
-use Rattle.rows.specs.Rows.{Taken, PairOf, cell, rowAt, listed, contactsFrom, contacts}
+use Rattle.rows.specs.Rows.{Taken, PairOf, cell, rowAt}
+use Rattle.listing.specs.Contacts.{listed, contactsFrom, contacts}
 use Rattle.rows.specs.Changes.{rows-once, row-same, row-other}
 use Rattle.rows.specs.Handling.{by-pair}
 use Rattle.pieces.specs.Pieces.{Store, leastTo, greatestTo}

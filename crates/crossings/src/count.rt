@@ -6,10 +6,10 @@ ghost use Prim.Native.Nat.{_<_};
 ghost use lib.Dec.{ltb};
 ghost use lib.ListN.{getD};
 ghost use Rattle.limits.specs.Limits;
-ghost use Rattle.marks.specs.Marks.{oneIf};
+ghost use Rattle.ints.specs.Counts.{oneIf};
 ghost use Rattle.marks.specs.Changed.{crossedKeys, crossedAt};
 ghost use Rattle.marks.specs.Promises.{Counted};
-use marks::keys::NO_KEY;
+use marks::NO_KEY;
 
 fn differs(a: bool, b: bool) -> u32
     ensures { λ r. ⌜ r ≡ oneIf (xor a b) ⌝ }

@@ -10,12 +10,15 @@ use lib.IntN.{ℤ, pos, natAbs}
 use lib.ListN.{replicate}
 use Rattle.limits.specs.Limits
 use Rattle.limits.specs.Lowest.{Refusal, Lowest, lowest-once}
-use Rattle.rows.specs.Rows.{Lists, BookInOrder, Handled}
-use Rattle.rows.specs.Counting.{zero-at, book-once}
+use Rattle.rows.specs.Rows.{Handled}
+use Rattle.listing.specs.Contacts.{Lists}
+use Rattle.tallies.specs.Tallies.{BookInOrder}
+use Rattle.tallies.specs.Counting.{zero-at, book-once}
 use Rattle.rows.specs.Changes.{cleared-once}
-use Rattle.rows.specs.Handling.{rows-started, book-started, handled-once}
-use Rattle.rows.specs.declared.Listed.{Listed}
-use Rattle.rows.specs.declared.Listed.the-variants.{Rows, Refused}
+use Rattle.rows.specs.Handling.{rows-started, handled-once}
+use Rattle.tallies.specs.Counting.{book-started}
+use Rattle.listing.specs.declared.Listed.{Listed}
+use Rattle.listing.specs.declared.Listed.the-variants.{Rows, Refused}
 use Rattle.marks.specs.Marks.{InPlaceMarks, changedMarks}
 use Rattle.marks.specs.Buffer.{none-in-place-marks, one-buffer}
 use Rattle.pieces.specs.Pieces.{Store, axesOf, pieceAt}
@@ -23,7 +26,7 @@ use Rattle.pieces.specs.Store.{ranged}
 use Rattle.space.specs.Exclusion.{verdict-once}
 use Rattle.walk.specs.Answers.{nothing, Carries}
 use Rattle.walk.specs.declared.Answer.{Answer}
-use Rattle.state.specs.Handled.{Emptied, PutDown}
+use Rattle.handling.specs.Handled.{Emptied, PutDown}
 use Rattle.pairs.specs.RowLaws.{carries-at, right-once}
 use Rattle.state.specs.Desk.{Desk, deskOf, InOrder}
 use Rattle.pairs.specs.Right.{RowRight}

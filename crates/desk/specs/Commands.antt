@@ -7,15 +7,15 @@ use lib.IntN.{ℤ, pos, natAbs}
 use lib.ListN.{length, getD, drop, replicate}
 use Rattle.limits.specs.Limits
 use Rattle.limits.specs.Lowest.{Refusal, Lowest, _when_}
-use Rattle.rows.specs.Rows as listing
-use Rattle.rows.specs.declared.Listed.{Listed}
+use Rattle.listing.specs.Contacts as listing
+use Rattle.listing.specs.declared.Listed.{Listed}
 use Rattle.space.specs.Lists.{LengthFits, InReach}
 use Rattle.marks.specs.Marks.{changedMarks}
 use Rattle.pieces.specs.Pieces.{Store, Loaded, axesOf, pieceAt}
 use Rattle.walk.specs.Answers.{nothing, Carries}
 use Rattle.walk.specs.declared.Answer.{Answer}
 use Rattle.state.specs.Desk.{Desk, deskOf, InOrder, loadedAt}
-use Rattle.state.specs.Handled.{PutDown, Emptied}
+use Rattle.handling.specs.Handled.{PutDown, Emptied}
 use Rattle.numbers.specs.Parts.{Numbered, shapeRefusals, emptyRefusals, takenRefusals, placementRefusals, twoRefusals}
 use Rattle.desk.specs.declared.Outcome.{Outcome}
 use Rattle.desk.specs.declared.Outcome.the-variants.{Done, Refused}

@@ -2,9 +2,9 @@
 // The desk is only read.
 ghost use Rattle.state.specs.Desk.{deskOf};
 ghost use Rattle.desk.specs.Commands.{ListsContacts};
-use rows::Listed;
-use rows::list_contacts;
-use state::order::desk_in_order;
+use listing::Listed;
+use listing::list_contacts;
+use state::desk_in_order;
 
 pub fn contacts(
     counts: &[u8; limits::SHAPES],

@@ -1,11 +1,6 @@
-// The desk: load, place, move, remove, ask and list, over state that the caller lends.
-// Every command and question first tests that the desk is in order; a refusal is given before anything is written.
+// The desk: what each command and question promises, the answer to a command, starting afresh, and the listing of contacts.
+// The other commands stand in `loading`, `placing`, `moving` and `pairing`; each first tests that the desk is in order.
 pub mod contacts;
-pub mod load;
-pub mod moves;
-pub mod pair;
-pub mod place;
-pub mod remove;
 pub mod start;
 
 // The answer to a command: its count, which is 0 but for a move, or a refusal's number.

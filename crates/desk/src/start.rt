@@ -7,7 +7,7 @@ ghost use Rattle.limits.specs.Limits;
 ghost use Rattle.state.specs.Desk.{deskOf};
 ghost use Rattle.desk.specs.Commands.{Started};
 use crate::Outcome;
-use marks::start_marks;
+use reordering::start_marks;
 use rows::start_rows;
 
 // No shapes and no places.

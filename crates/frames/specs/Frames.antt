@@ -1,15 +1,15 @@
 -- The frame of a difference: three points of it that are independent, with a box where the difference is flat.
 -- r = 3: nowhere flat, no box; r = 2: in a plane; r = 1: on a line; r = 0: at the origin. F1 to F5 of the walk's proof.
 use mathlib.Core.Path.{_≡_, refl, sym, ap, ap₂, _∙_, subst}
-use mathlib.Core.List.{List, [], _∷_}
+use mathlib.Core.List.{[], _∷_}
 use mathlib.Core.Bool.{Bool, true, false}
-use mathlib.Core.Logic.{_⊎_, inl, inr, ⊎-elim}
+use mathlib.Core.Logic.{_⊎_, inr, ⊎-elim}
 use Prim.Native.Nat.{ℕ, zero, suc, _+_, _-_, _≤_, _<_}
 use native.Mathlib.Omega.{arith}
 use lib.Dec.{T, ltb, leb, leb→le, eqb}
 use mir.Syntax.{w64}
 use mir.Val.{ofZ}
-use lib.IntN.{ℤ, pos, negsuc, negℤ, _+ℤ_, _-ℤ_, _*ℤ_}
+use lib.IntN.{ℤ, pos, negsuc, _+ℤ_, _-ℤ_, _*ℤ_}
 use lib.Signed.{_≤ℤ_, _<ℤ_, ltZ}
 use borrow.Author.Tests.{lt-ltb, le-ltb, eqb-true, eqb-false}
 use Rattle.ints.specs.Quote.{sides, by-ring}
@@ -20,16 +20,16 @@ use Rattle.limits.specs.Limits.{directionReach, placedReach}
 use Rattle.space.specs.declared.Vec3.{Vec3}
 use Rattle.space.specs.Vectors.{dot, cross, minus, plus, scale, det, env1, origin, opposite, vec-eq}
 use Rattle.space.specs.Ranges.{Upto, pointReach, crossReach, normalReach, upto-le}
-use Rattle.space.specs.Verdicts.{Piece, cornerCount, cornerAt, NotAbove, Supported}
+use Rattle.space.specs.Verdicts.{Piece, cornerCount, cornerAt, Supported}
 use Rattle.space.specs.Lists.{Placed}
 use Rattle.portal.specs.declared.Three.{Three}
-use Rattle.portal.specs.Flat.{had, vec, ones, Signs, unit, nextAxis, coordinate, turnedRound, Axis, axis, had-plus, f2-plane, f2-line, times-other, Drops, planeRow, drops-plane, lineRow, drops-line, f5-line, f5-some}
+use Rattle.portal.specs.Flat.{had, vec, ones, Signs, unit, nextAxis, coordinate, turnedRound, axis, had-plus, f2-plane, f2-line, times-other, Drops, planeRow, drops-plane, lineRow, drops-line, f5-line, f5-some}
 use Rattle.portal.specs.Portal.{det-rot}
 use Rattle.route.specs.declared.support.Point.{Point}
 use Rattle.route.specs.declared.path.Portal.{Portal}
 use Rattle.frames.specs.declared.frame.Frame.{Frame}
 use Rattle.frames.specs.declared.frame.Found.{Found}
-use Rattle.route.specs.Points.{Spread, Tagged, Box, ones-signs, some-corner, plain-at, corner-upto}
+use Rattle.route.specs.Points.{Tagged, Box, ones-signs, some-corner, plain-at, corner-upto}
 use Rattle.route.specs.Gather.{zero-bits}
 
 -- ---- a difference of two corners, with their numbers

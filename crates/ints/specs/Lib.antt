@@ -1,4 +1,5 @@
 pub mod Bounds
+pub mod Counts
 pub mod Laws
 pub mod Measure
 pub mod Order

@@ -1,14 +1,12 @@
 -- A natural number that falls: the floor of S² h / s, where h / s falls and s stays from 1 to S.
 -- It is the measure of a walk whose fractions h / s only ever get smaller.
-use mathlib.Core.Path.{_≡_, refl, sym, ap, ap₂, _∙_, subst}
-use mathlib.Core.List.{List, [], _∷_}
-use mathlib.Core.Logic.{_⊎_, inl, inr, ⊎-elim}
-use Prim.Native.Nat.{ℕ, zero, suc, _+_, _*_, _/_, _≤_, _<_}
+use mathlib.Core.Path.{_≡_, refl, sym, ap₂, subst}
+use mathlib.Core.List.{[], _∷_}
+use Prim.Native.Nat.{ℕ, _+_, _*_, _/_, _≤_, _<_}
 use native.Mathlib.Omega.{arith}
 use native.Mathlib.Nat.{div-mul-le-self, le-div-iff-mul-le}
-use lib.Dec.{le→leb, leb→le, lt→ltb, ltb→lt}
-use lib.IntN.{ℤ, pos, negsuc, negℤ, natAbs, _+ℤ_, _-ℤ_, _*ℤ_}
-use lib.Signed.{_≤ℤ_, _<ℤ_, clashℤ}
+use lib.IntN.{ℤ, pos, negsuc, natAbs, _+ℤ_, _-ℤ_, _*ℤ_}
+use lib.Signed.{_≤ℤ_, _<ℤ_}
 use Rattle.ints.specs.Quote.{sides, by-ring}
 use Rattle.ints.specs.Order.{le-of-nn, nn-of-le, nn-add, nn-mul, nn-pos, nn-factor, lt→≤ℤ, pos-le, le-pos, pos-lt, lt-pos, lt-succ}
 

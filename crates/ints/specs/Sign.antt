@@ -1,14 +1,13 @@
 -- Signs. `Same t u`: t and u have one sign. `lex u v` is u, or v where u is 0. A number k a + b, with b smaller than k, has the sign of lex a b.
-use mathlib.Core.Path.{_≡_, refl, sym, ap, ap₂, _∙_, subst}
-use mathlib.Core.List.{List, [], _∷_}
-use mathlib.Core.Logic.{_⊎_, inl, inr, ⊎-elim}
+use mathlib.Core.Path.{_≡_, refl, sym, ap, _∙_, subst}
+use mathlib.Core.List.{[], _∷_}
+use mathlib.Core.Logic.{_⊎_, ⊎-elim}
 use Prim.Native.Nat.{ℕ, zero, suc, _+_, _*_, _≤_, _<_}
-use native.Mathlib.Omega.{arith}
-use lib.Dec.{T, ltb, ltb→lt, lt→ltb, le→leb}
-use lib.IntN.{ℤ, pos, negsuc, negℤ, natAbs, _+ℤ_, _-ℤ_, _*ℤ_, *ℤ-zero, +ℤ-idl}
-use lib.Signed.{_≤ℤ_, _<ℤ_, clashℤ, <ℤ-irrefl, ≤ℤ-refl}
+use lib.Dec.{le→leb}
+use lib.IntN.{ℤ, pos, negsuc, negℤ, _+ℤ_, _*ℤ_, *ℤ-zero, +ℤ-idl}
+use lib.Signed.{_≤ℤ_, _<ℤ_, clashℤ, <ℤ-irrefl}
 use Rattle.ints.specs.Quote.{sides, by-ring}
-use Rattle.ints.specs.Order.{le-or-lt, trichotomy, le-comb, lt-comb, nn-of-le, pos-of-lt, nn-add, nn-mul, pos-add, pos-mul, nn-pos, <ℤ-neg, lt→≤ℤ, le-of-eq, pos-suc}
+use Rattle.ints.specs.Order.{le-or-lt, trichotomy, le-comb, lt-comb, nn-of-le, pos-of-lt, nn-mul, pos-add, pos-mul, nn-pos, <ℤ-neg, lt→≤ℤ, le-of-eq}
 use Rattle.ints.specs.Bounds.{Within}
 use Rattle.ints.specs.Order.{lt-succ, ≤ℤ-<ℤ-trans}
 

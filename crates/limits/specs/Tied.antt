@@ -1,6 +1,6 @@
 -- The numbers of Limits as the records that src/lib.rt makes of its own: where the two files differ, the `tied_` function is refused.
 -- Nothing else cites this file.
-use mathlib.Core.List.{List, [], _∷_}
+use mathlib.Core.List.{[], _∷_}
 use lib.IntN.{pos}
 use Rattle.limits.specs.Limits
 use Rattle.limits.specs.declared.Sizes.{Sizes}

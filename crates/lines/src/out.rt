@@ -40,13 +40,13 @@ fn ready(out: &mut [u8], at: usize) -> usize
 // A word of fixed bytes.
 pub fn word(out: &mut [u8], at: usize, text: &[u8]) -> usize {
     let next = ready(out, at);
-    words::put(out, next, text)
+    prints::put(out, next, text)
 }
 
 // A number in decimal.
 pub fn number(out: &mut [u8], at: usize, n: i64) -> usize {
     let next = ready(out, at);
-    words::put_number(out, next, n)
+    prints::put_number(out, next, n)
 }
 
 // One space, and a number in decimal.
@@ -71,7 +71,7 @@ pub fn next_count(out: &mut [u8], at: usize, n: usize) -> usize {
 // A number in hex, of at least `width` digits.
 pub fn hex(out: &mut [u8], at: usize, n: u32, width: usize) -> usize {
     let next = ready(out, at);
-    words::put_hex(out, next, n, width)
+    prints::put_hex(out, next, n, width)
 }
 
 // The end of an answer.

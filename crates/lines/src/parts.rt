@@ -41,26 +41,26 @@ pub fn three_words(line: &[u8], start: usize) -> Ends
 }
 
 // The one word behind a command's own, if it is a number.
-pub fn only_number(line: &[u8], end: usize) -> words::Number {
+pub fn only_number(line: &[u8], end: usize) -> numerals::Number {
     if end < line.len() {
-        return words::read_number(&line[end + 1..]);
+        return numerals::read_number(&line[end + 1..]);
     }
-    words::Number::Bad
+    numerals::Number::Bad
 }
 
 // The one word behind a command's own, if it is a number and not negative.
 pub fn only_index(line: &[u8], end: usize) -> Index {
     match only_number(line, end) {
-        words::Number::Value(v) => not_negative(v),
-        words::Number::Bad => Index::Bad,
+        numerals::Number::Value(v) => not_negative(v),
+        numerals::Number::Bad => Index::Bad,
     }
 }
 
 // A word that is a number and not negative.
 pub fn read_index(word: &[u8]) -> Index {
-    match words::read_number(word) {
-        words::Number::Value(v) => not_negative(v),
-        words::Number::Bad => Index::Bad,
+    match numerals::read_number(word) {
+        numerals::Number::Value(v) => not_negative(v),
+        numerals::Number::Bad => Index::Bad,
     }
 }
 

@@ -8,7 +8,8 @@ use lib.Dec.{eqb, ltb}
 use lib.IntN.{ℤ, pos, _+ℤ_}
 use lib.ListN.{getD, replicate}
 use Rattle.limits.specs.Limits
-use Rattle.marks.specs.Marks.{Axes, axisOf, sumTo, earlier, changed, changedMarks}
+use Rattle.marks.specs.Marks.{Axes, axisOf, earlier, changed, changedMarks}
+use Rattle.ints.specs.Counts.{sumTo}
 use Rattle.marks.specs.Keys.{keyAt}
 use Rattle.marks.specs.Rising.{pass, keep}
 use Rattle.marks.specs.Sorted.{cleared, reordered}

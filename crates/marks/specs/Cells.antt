@@ -11,10 +11,9 @@ use lib.Dec.{eqb, ltb}
 use lib.IntN.{ℤ}
 use lib.ListN.{length, getD, replicate, length-replicate}
 use Rattle.limits.specs.Limits
-use Rattle.ints.specs.Bounds.{Within}
-use Rattle.marks.specs.Marks.{Axis, oneIf, placeOf, sideOf, valueOf, isMark, earlier, InPlace, Ranged, Agree, OthersStay}
+use Rattle.marks.specs.Marks.{Axis, placeOf, sideOf, valueOf, isMark, earlier, InPlace, Ranged, OthersStay}
+use Rattle.ints.specs.Counts.{oneIf, countOf, hit, less, and-false, oneIf≤, count-pos, count-fill, find, find-two, twice}
 use Rattle.marks.specs.Keys.{noKey, keyFor, keyAt, Keyed, keyOf}
-use Rattle.marks.specs.Counts.{countOf, hit, less, and-false, oneIf≤, count-pos, count-fill, find, find-two, twice}
 use Rattle.marks.specs.Rising.{up-at, up-from, up-none, fill-up}
 use Rattle.marks.specs.Sorted.{Sorted, keyed, top-key, member, only, reordered, stays-sorted}
 use Rattle.marks.specs.Order.{mark-low, no-mark, at-none, keyed-is, fine, key-decides, keys-are}
@@ -98,17 +97,6 @@ module _ (a : Axis) (r : Ranged a) (xs : List ℕ) where
             | inr n ↦ omega (arith, climbs i j l (omega (arith, m, p .long)) (n .0))
           ]
 
--- an axis with the same places and values is in range too
-pub ranged-same : (a b : Axis) → Agree a b → Ranged a → Ranged b
-ranged-same a b g r m h =
-    let l = mark-low b m h in
-    let t : a .taken (placeOf m) ≡ true = g .taken (placeOf m) (omega (arith, l .0)) ∙ l .1 in
-    let is : isMark a m ≡ true = ap (λ (c : Bool). c && a .taken (placeOf m)) (lt-ltb m Limits.axisMarks (l .0)) ∙ t in
-    subst (Within Limits.placedReach)
-    (ap (λ (v : ℤ). cond (eqb (sideOf m) 0) v (a .high (placeOf m))) (g .low (placeOf m) (omega (arith, l .0)) t)
-    ∙ ap (λ (v : ℤ). cond (eqb (sideOf m) 0) (b .low (placeOf m)) v) (g .high (placeOf m) (omega (arith, l .0)) t))
-    (r m is)
-
 -- two parts in place for the same places and values are one
 pub one-part : (a : Axis) → Ranged a → (xs ys : List ℕ) → InPlace a xs → InPlace a ys → xs ≡ ys
 one-part a r xs ys p q = only (keyAt a) xs ys (fine a r) (sorted a r xs p) (sorted a r ys q)
@@ -156,10 +144,3 @@ pub stays-in-place : (old new : Axis) (keys : List ℕ) (place : ℕ) (xs : List
 stays-in-place old new keys place xs l ro k o p =
     subst (λ (e : ℕ → ℕ). InPlace new (reordered e place xs)) (sym (keys-are new keys k))
     (in-place new (k .ranged) (reordered (keyAt new) place xs) (stays-sorted (keyAt old) (keyAt new) xs place l (fine old ro) (fine new (k .ranged)) (stay old new place o) (sorted old ro xs p)))
-
--- the keys of one axis are those of every axis that has the same places and values
-pub keyed-same : (a b : Axis) (keys : List ℕ) → Agree a b → Keyed a keys → Keyed b keys
-keyed-same a b keys g k = record {
-  ranged = ranged-same a b g (k .ranged);
-  is = λ m l. k .is m l ∙ key-stays a b m (g .taken (placeOf m) (omega arith)) (λ h. (g .low (placeOf m) (omega arith) h, g .high (placeOf m) (omega arith) h));
-}

@@ -9,9 +9,9 @@ use borrow.Author.Tests.{eq-eqb, lt-ltb}
 use lib.Dec.{eqb, ltb}
 use lib.ListN.{getD}
 use Rattle.limits.specs.Limits
-use Rattle.marks.specs.Marks.{Axis, Axes, axisOf, oneIf, sumTo, placeOf, lowMark, highMark, isMark, earlier, crossed, isOther, changed, changedMarks, OthersStay}
+use Rattle.marks.specs.Marks.{Axis, Axes, axisOf, placeOf, lowMark, highMark, isMark, earlier, crossed, isOther, changed, changedMarks, OthersStay}
+use Rattle.ints.specs.Counts.{oneIf, sumTo, and-false, oneIf≤, sum-same, sum-four}
 use Rattle.marks.specs.Keys.{noKey, keyAt, Keyed}
-use Rattle.marks.specs.Counts.{and-false, oneIf≤, sum-same, sum-four}
 use Rattle.marks.specs.Sorted.{notOf}
 use Rattle.marks.specs.Order.{mark-low, keyed-is, key-decides}
 

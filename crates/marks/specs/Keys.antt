@@ -2,7 +2,7 @@
 -- What is no mark of a taken place has the key `noKey`, above every mark's.
 use mathlib.Core.Path.{_≡_}
 use mathlib.Core.List.{List}
-use mathlib.Core.Bool.{Bool, false, cond}
+use mathlib.Core.Bool.{cond}
 use Prim.Native.Nat.{ℕ, _+_, _*_, _<_}
 use lib.Dec.{ltb}
 use lib.IntN.{ℤ, pos, natAbs, _+ℤ_}
@@ -32,10 +32,6 @@ pub record KeyedMarks (a : Axes) (x y z : List ℕ) : Type 0 where
   pub on-x : Keyed (axisOf a 0) x
   pub on-y : Keyed (axisOf a 1) y
   pub on-z : Keyed (axisOf a 2) z
-
--- the axis that lists of low and high values give, with the places that are taken
-abbrev pub axisFrom : List ℤ → List ℤ → List Bool → Axis
-axisFrom lows highs taken = record { taken = λ place. getD taken place false; low = λ place. getD lows place (pos 0); high = λ place. getD highs place (pos 0) }
 
 -- the key that the list has for a number of a part
 abbrev pub keyOf : List ℕ → ℕ → ℕ

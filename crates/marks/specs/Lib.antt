@@ -1,13 +1,10 @@
 pub mod Marks
 pub mod Keys
-pub mod Counts
 pub mod Rising
 pub mod Sorted
 pub mod Order
 pub mod Cells
-pub mod Test
 pub mod Changed
 pub mod Promises
 pub mod Buffer
-pub mod Rank
 pub mod Bench

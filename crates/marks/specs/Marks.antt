@@ -4,12 +4,13 @@ use mathlib.Core.Path.{_≡_}
 use mathlib.Core.Logic.{_⊎_}
 use mathlib.Core.List.{List}
 use mathlib.Core.Bool.{Bool, true, false, cond, _&&_, not, xor}
-use Prim.Native.Nat.{ℕ, zero, suc, _+_, _*_, _/_, _%_, _<_}
+use Prim.Native.Nat.{ℕ, _+_, _*_, _/_, _%_, _<_}
 use lib.Dec.{eqb, ltb}
 use lib.IntN.{ℤ}
 use lib.ListN.{length, getD, take, drop}
 use lib.Signed.{ltZ}
 use Rattle.limits.specs.Limits
+use Rattle.ints.specs.Counts.{oneIf, sumTo}
 use Rattle.ints.specs.Bounds.{Within}
 
 -- "On each axis a taken place has a low mark and a high mark, the least and greatest placed corner."
@@ -101,15 +102,6 @@ pub record OthersStayMarks (place : ℕ) (old new : Axes) : Type 0 where
   pub taken : (p : ℕ) → p < Limits.places → (p ≡ place → ⊥) → old .taken p ≡ new .taken p
   pub low : (axis p : ℕ) → axis < 3 → p < Limits.places → (p ≡ place → ⊥) → old .taken p ≡ true → old .low axis p ≡ new .low axis p
   pub high : (axis p : ℕ) → axis < 3 → p < Limits.places → (p ≡ place → ⊥) → old .taken p ≡ true → old .high axis p ≡ new .high axis p
-
--- 1 where the test holds, else 0; the sum over the numbers below n
-abbrev pub oneIf : Bool → ℕ
-oneIf true = 1
-oneIf false = 0
-
-unfoldable pub sumTo : ℕ → (ℕ → ℕ) → ℕ
-sumTo zero f = 0
-sumTo (suc n) f = f n + sumTo n f
 
 -- "the number of pairs (mark of the moved piece, mark of another piece) whose order before and after differs": on one axis, and over the three
 abbrev pub crossed : Axis → Axis → ℕ → ℕ → ℕ

@@ -16,7 +16,7 @@ use Rattle.ints.specs.Bounds.{Within, natAbs-add}
 use Rattle.ints.specs.Order.{subℕ-ge, trichotomy, lt→≤ℤ}
 use Rattle.marks.specs.Marks.{Axis, placeOf, sideOf, valueOf, isMark, earlier, Ranged}
 use Rattle.marks.specs.Keys.{noKey, raised, keyFor, keyAt, Keyed, keyOf}
-use Rattle.marks.specs.Counts.{less, and-true}
+use Rattle.ints.specs.Counts.{less, and-true}
 use Rattle.marks.specs.Sorted.{Fine, keyed}
 
 -- tests of values

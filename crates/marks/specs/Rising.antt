@@ -9,8 +9,7 @@ use native.Mathlib.Omega.{arith}
 use borrow.Author.Tests.{le-leb, lt-ltb, le-ltb, leb-true}
 use lib.Dec.{eqb, leb, ltb}
 use lib.ListN.{length, getD, replicate}
-use Rattle.marks.specs.Marks.{oneIf}
-use Rattle.marks.specs.Counts.{countOf, hit, hit-self, less, and-true, count-pos}
+use Rattle.ints.specs.Counts.{oneIf, countOf, hit, hit-self, less, and-true, count-pos}
 
 -- the keys rise from k on
 unfoldable pub rises : (ℕ → ℕ) → ℕ → List ℕ → Bool

@@ -10,9 +10,9 @@ use borrow.Author.Tests.{eq-eqb, ne-eqb, lt-ltb, le-ltb, ltb-true}
 use lib.Dec.{eqb, ltb}
 use lib.ListN.{length, replicate, length-append, length-replicate}
 use Rattle.limits.specs.Limits
-use Rattle.marks.specs.Marks.{oneIf, sumTo, placeOf, lowMark, highMark}
+use Rattle.marks.specs.Marks.{placeOf, lowMark, highMark}
+use Rattle.ints.specs.Counts.{oneIf, sumTo, countOf, hit, hit-self, less, and-true, and-false, oneIf≤, oneIf-true, count-append, count-fill, sum-same, sum-count, sum-miss}
 use Rattle.marks.specs.Keys.{noKey}
-use Rattle.marks.specs.Counts.{countOf, hit, hit-self, less, and-true, and-false, oneIf≤, oneIf-true, count-append, count-fill, sum-same, sum-count, sum-miss}
 use Rattle.marks.specs.Rising.{rises, pass, last, keep, same, up-same, pass-long, pass-top, pass-up, pass-count, last-max, keep-up, fill-up, keep-count, keep-long}
 
 pub record Fine (e : ℕ → ℕ) : Type 0 where

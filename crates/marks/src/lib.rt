@@ -1,63 +1,50 @@
-// End marks: document 01's order of marks, kept in one lent buffer of which each axis has its own part.
-// keys.rt makes the numbers that are compared, order_test.rt tests a part and reorder.rt keeps one in place.
+// End marks: document 01's order of marks, and their keys: one unsigned number a mark, made once from an axis's values and compared ever after.
+// One lent buffer has the marks, each axis in its own part: `ordering` tests whether it is in place, `reordering` keeps it so.
 ghost use mathlib.Core.Path.{_≡_};
 ghost use Prim.Native.Nat.{_<_};
-ghost use lib.ListN.{length, replicate};
 ghost use Rattle.limits.specs.Limits;
-ghost use Rattle.marks.specs.Promises.{TestedMarks, ReorderedMarks};
-use order_test::in_place;
-use reorder::fill_up;
-use reorder::reorder;
+ghost use Rattle.ints.specs.Bounds.{Within};
+ghost use Rattle.ints.specs.Counts.{oneIf};
+ghost use Rattle.marks.specs.Keys.{keyFor, keyOf};
 
-pub mod keys;
-pub mod order_test;
-pub mod reorder;
+// What is no mark of a taken place has this key, above every mark's.
+pub const NO_KEY: u32 = 4294967295;
 
 // Where the parts of the second and the third axis start.
-const START_Y: usize = limits::AXIS_MARKS;
+pub const START_Y: usize = limits::AXIS_MARKS;
 
-const START_Z: usize = 2 * limits::AXIS_MARKS;
+pub const START_Z: usize = 2 * limits::AXIS_MARKS;
 
-// Whether a buffer of any length and contents is in place; x, y and z are the keys of the three axes.
-pub fn in_place_marks(
-    marks: &[u16],
-    x: &[u32; limits::AXIS_MARKS],
-    y: &[u32; limits::AXIS_MARKS],
-    z: &[u32; limits::AXIS_MARKS],
-) -> bool
-    ensures { λ r. ⌜ TestedMarks (now (x .entry)) (now (y .entry)) (now (z .entry)) (now (marks .entry)) r ⌝ }
+pub fn wide(x: u16) -> usize
+    ensures { λ r. ⌜ r ≡ x ⌝ }
 {
-    if marks.len() != limits::MARKS {
-        return false;
-    }
-    if !in_place(&marks[0..START_Y], x) {
-        return false;
-    }
-    if !in_place(&marks[START_Y..START_Z], y) {
-        return false;
-    }
-    in_place(&marks[START_Z..limits::MARKS], z)
+    x as usize
 }
 
-// No place is taken: no mark anywhere.
-pub fn start_marks(marks: &mut [u16])
-    ensures { λ _. ⌜ now (marks .exit) ≡ replicate (length (now (marks .entry))) Limits.noMark ⌝ }
+pub fn one_if(b: bool) -> usize
+    ensures { λ r. ⌜ r ≡ oneIf b ⌝ }
 {
-    fill_up(marks, 0);
+    if b { 1 } else { 0 }
 }
 
-// One place is placed, moved or removed on all three axes; x, y and z are the keys that hold afterwards.
-pub fn reorder_marks(
-    marks: &mut [u16],
-    x: &[u32; limits::AXIS_MARKS],
-    y: &[u32; limits::AXIS_MARKS],
-    z: &[u32; limits::AXIS_MARKS],
-    place: usize,
-)
-    requires { ⌜ (length (now marks) ≡ Limits.marks) × (place < Limits.places) ⌝ }
-    ensures { λ _. ⌜ ReorderedMarks (now (x .entry)) (now (y .entry)) (now (z .entry)) place (now (marks .entry)) (now (marks .exit)) ⌝ }
+// The key of a mark of this value: value, then low before high, then smaller place.
+pub fn mark_key(value: i32, mark: usize) -> u32
+    requires { ⌜ Within Limits.placedReach value × (mark < Limits.axisMarks) ⌝ }
+    ensures { λ r. ⌜ r ≡ keyFor value mark ⌝ }
 {
-    reorder(&mut marks[0..START_Y], x, place);
-    reorder(&mut marks[START_Y..START_Z], y, place);
-    reorder(&mut marks[START_Z..limits::MARKS], z, place);
+    let up = value + limits::PLACED_REACH;
+    let raised = up as usize;
+    let key = (raised * 2 + mark % 2) * limits::PLACES + mark / 2;
+    key as u32
+}
+
+// The key of whatever number stands in a part.
+pub fn key_of(keys: &[u32; limits::AXIS_MARKS], q: u16) -> u32
+    ensures { λ r. ⌜ r ≡ keyOf (now (keys .entry)) q ⌝ }
+{
+    let mark = wide(q);
+    if mark < limits::AXIS_MARKS {
+        return keys[mark];
+    }
+    NO_KEY
 }

@@ -1,17 +1,17 @@
 // The answer to a line, by its command.
 // What the desk has a part in is lent the desk; the rest is not.
 use crate::input;
+use commands::Command;
+use commands::Other;
+use commands::read;
 use lines::lent;
 use lines::out;
 use panel::asked;
-use panel::command::Command;
-use panel::command::Other;
-use panel::command::read;
-use panel::spoil;
 use panel::told;
 use readings::floats;
 use readings::lists;
 use readings::texts;
+use spoils::spoil;
 
 // Puts the answer to what a turn found, and hands back the next place.
 pub fn answer(
@@ -59,7 +59,7 @@ pub fn answer(
             out,
             at,
         ),
-        Command::Spoil(cell) => spoil::spoil(
+        Command::Spoil(cell) => spoil(
             cell,
             counts,
             corners,

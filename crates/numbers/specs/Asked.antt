@@ -12,13 +12,17 @@ use Rattle.limits.specs.Decides.{Decides}
 use Rattle.limits.specs.Lowest.{Refusal, Lowest}
 use Rattle.rows.specs.Rows.{Taken}
 use Rattle.pieces.specs.Pieces.{Loaded, storeOf}
-use Rattle.state.specs.Handled.{OffsetFits}
+use Rattle.state.specs.Desk.{OffsetFits}
 use Rattle.numbers.specs.Parts.{Numbered, shapeRefusals, emptyRefusals, takenRefusals, placementRefusals, twoRefusals}
 
 -- n is the lowest of the part's refusals, and where it is none, `Given` holds
 pub record Asked (l : List Refusal) (Given : Type 0) (n : ℕ) : Type 0 where
   pub refusal : Lowest l n
   pub given : n ≡ 0 → Given
+
+-- a number that is not 0
+pub positive : {n : ℕ} → (n ≡ 0 → ⊥) → 0 < n
+positive f = omega (arith, f)
 
 pub asked-refused : {l : List Refusal} {G : Type 0} {n : ℕ} → Lowest l n → 0 < n → Asked l G n
 asked-refused h k = record { refusal = h; given = λ e. absurd (omega arith) }
@@ -69,3 +73,6 @@ lowest-then (r ∷ l) k n p (inr h) m = inr (h .0, lowest-then l k n (p .1) (h .
 -- an offset that was handed on is the one that was handed in
 pub offset-handed : {b : Bool} {u v w x y z : ℤ} → u ≡ x → v ≡ y → w ≡ z → Decides b (OffsetFits u v w) → Decides b (OffsetFits x y z)
 offset-handed {b} e f g d = rw (sym e, sym f, sym g) d
+
+pub placement-handed : {c u v w turn x y z : ℤ} {n : ℕ} → c ≡ turn → u ≡ x → v ≡ y → w ≡ z → PlacementAsked c u v w n → PlacementAsked turn x y z n
+placement-handed d e f g h = rw (sym d, sym e, sym f, sym g) h

@@ -9,7 +9,7 @@ use Rattle.limits.specs.Limits
 use Rattle.limits.specs.Lowest.{Refusal, _when_}
 use Rattle.rows.specs.Rows.{Taken}
 use Rattle.pieces.specs.Pieces.{Store, Loaded}
-use Rattle.state.specs.Handled.{OffsetFits}
+use Rattle.state.specs.Desk.{OffsetFits}
 
 -- ---- numbers that arrive: one of 0 to n − 1
 pub record Numbered (n : ℕ) (z : ℤ) : Type 0 where

@@ -1,7 +1,7 @@
 // What a command's numbers are asked, part by part: each function gives the lowest refusal of its part, or 0.
 // The order of the desk itself is asked first, by the commands.
 ghost use Rattle.limits.specs.Decides.{Decides};
-ghost use Rattle.state.specs.Handled.{OffsetFits};
+ghost use Rattle.state.specs.Desk.{OffsetFits};
 ghost use Rattle.numbers.specs.Asked.{ShapeAsked, EmptyAsked, TakenAsked, PlacementAsked, PairAsked};
 use crate::number::index_of;
 use ranges::is_loaded;

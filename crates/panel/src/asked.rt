@@ -3,23 +3,15 @@
 ghost use Prim.Native.Nat.{_<_};
 use crate::report::contact;
 use crate::report::report;
+use commands::Asked;
 use desk::contacts::contacts;
-use desk::pair::pair;
 use lines::lent;
 use lines::lent::at_most;
 use lines::out;
 use lines::verdicts::pair_answer;
-use rows::Listed;
-use state::order::desk_in_order;
-
-pub enum Asked {
-    Pair(i32, i32),
-    Contacts,
-    Rows,
-    Tallies,
-    Marks,
-    Report,
-}
+use listing::Listed;
+use pairing::pair;
+use state::desk_in_order;
 
 // Asks the desk, with as much room and as many marks as are lent.
 pub fn ask(

@@ -1,23 +1,15 @@
 // What the desk can be told: start afresh, load, place, move, remove.
 // Each is handed on with its numbers as they stand in the line; the desk refuses what it does not take.
+use commands::Told;
 use desk::Outcome;
-use desk::load::load;
-use desk::moves::move_piece;
-use desk::place::place;
-use desk::remove::remove;
 use desk::start::start;
 use lines::lent;
 use lines::lent::at_most;
 use lines::out;
-
-// A command with its numbers; of a load the first, and how many there are.
-pub enum Told {
-    Fresh,
-    Load(i32, usize),
-    Place(i32, i32, i32, i32, i32, i32),
-    Move(i32, i32, i32, i32, i32),
-    Remove(i32),
-}
+use loading::load;
+use moving::move_piece;
+use placing::place;
+use placing::remove;
 
 // The desk before the first line, in a marks buffer that is longer than its marks.
 pub fn fresh(

@@ -1,24 +1,23 @@
 -- A piece of a store in order, what is read of it, and when the boxes of two pieces are apart.
 -- Document 01: "on some axis one high mark's value is below the other's low". "Boxes that share a face are not apart."
-use mathlib.Core.Path.{_≡_, refl, sym, ap, ap₂, _∙_, subst}
+use mathlib.Core.Path.{_≡_, refl, sym, ap, _∙_, subst}
 use mathlib.Core.List.{List}
 use mathlib.Core.Bool.{Bool, true, false}
 use mathlib.Core.Logic.{_⊎_, inl, inr, ⊎-elim}
 use Prim.Native.Nat.{ℕ, _+_, _*_, _/_, _%_, _≤_, _<_}
 use native.Mathlib.Omega.{arith}
-use lib.ListN.{length, take}
+use lib.ListN.{take}
 use lib.IntN.{ℤ}
 use lib.Signed.{_≤ℤ_, _<ℤ_, clashℤ, ltZ}
 use Rattle.ints.specs.Order.{lt-or-ge}
 use Rattle.ints.specs.Tests.{lt-of-true, le-of-false}
-use Rattle.ints.specs.Bounds.{Within}
 use Rattle.limits.specs.Limits
 use Rattle.limits.specs.Decides.{Decides, holds, fails}
 use Rattle.rows.specs.Rows.{Taken}
 use Rattle.pieces.specs.declared.placed.Ends.{Ends}
-use Rattle.pieces.specs.Pieces.{Store, PiecesInOrder, countAt, placedCorner, listTo, pieceAt, leastTo, greatestTo, lowAt, highAt}
+use Rattle.pieces.specs.Pieces.{Store, PiecesInOrder, countAt, listTo, pieceAt, leastTo, greatestTo, lowAt, highAt}
 use Rattle.pieces.specs.Placed.{numberAt, poseOf, EndsOf}
-use Rattle.pieces.specs.Store.{number-is, list-same, low-within, high-within}
+use Rattle.pieces.specs.Store.{number-is, list-same}
 
 -- the piece at a taken place of a store in order
 pub record Piece (d : Store) (p : ℕ) : Type 0 where

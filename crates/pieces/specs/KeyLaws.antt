@@ -1,27 +1,23 @@
 -- The laws by which the keys of a store's marks are made.
 -- A mark of a taken place has its end for its value; any other number has no key.
-use mathlib.Core.Path.{_≡_, refl, sym, ap, _∙_, subst}
+use mathlib.Core.Path.{_≡_, sym, ap, _∙_}
 use mathlib.Core.List.{List}
-use mathlib.Core.Bool.{Bool, true, false, cond, _&&_}
+use mathlib.Core.Bool.{true, false, cond, _&&_}
 use mathlib.Core.Logic.{⊎-elim}
 use Prim.Native.Nat.{ℕ, _+_, _/_, _%_, _≤_, _<_}
 use native.Mathlib.Omega.{arith}
-use lib.Dec.{eqb, ltb}
 use lib.IntN.{ℤ}
 use lib.ListN.{length, getD, set}
 use lib.Seq.{getD-set-same, getD-set-other}
 use borrow.Author.Tests.{eq-eqb, ne-eqb, lt-ltb}
-use Rattle.ints.specs.Bounds.{Within}
 use Rattle.ints.specs.Order.{lt-or-ge}
 use Rattle.limits.specs.Limits
 use Rattle.rows.specs.Rows.{Taken}
-use Rattle.marks.specs.Marks.{Axis, axisOf, isMark, valueOf, placeOf, sideOf}
+use Rattle.marks.specs.Marks.{Axis, axisOf, isMark, valueOf}
 use Rattle.marks.specs.Keys.{keyAt, keyFor, noKey}
 use Rattle.marks.specs.Order.{at-mark, at-none}
-use Rattle.pieces.specs.declared.placed.Ends.{Ends}
-use Rattle.pieces.specs.Pieces.{Store, PiecesInOrder, axesOf, takenAt, lowAt, highAt}
-use Rattle.pieces.specs.Store.{taken-is, empty-is, low-within, high-within}
-use Rattle.pieces.specs.Boxes.{EndsAt}
+use Rattle.pieces.specs.Pieces.{Store, axesOf, takenAt, lowAt, highAt}
+use Rattle.pieces.specs.Store.{taken-is, empty-is}
 
 pub value-low : (d : Store) (axis mark : ℕ) → mark % 2 ≡ 0 → lowAt d axis (mark / 2) ≡ valueOf (axisOf (axesOf d) axis) mark
 value-low d axis mark e = sym (ap (λ b. cond b (lowAt d axis (mark / 2)) (highAt d axis (mark / 2))) (eq-eqb (mark % 2) 0 e))

@@ -1,19 +1,17 @@
 -- A piece's numbers from the arrays that it is read from: what the functions between the arrays and the store promise.
 -- With the pose of the store, they are the placed corners and ends of Pieces.
-use mathlib.Core.Path.{_≡_, refl, sym, ap, ap₂, _∙_, subst}
+use mathlib.Core.Path.{_≡_, sym, ap, ap₂, _∙_}
 use mathlib.Core.List.{List, [], _∷_, _++_}
 use mathlib.Core.Bool.{Bool, true, false, cond}
-use mathlib.Core.Logic.{_⊎_, inl, inr, ⊎-elim}
-use Prim.Native.Nat.{ℕ, zero, suc, _+_, _-_, _*_, _/_, _%_, _≤_, _<_}
+use Prim.Native.Nat.{ℕ, zero, suc, _+_, _-_, _*_, _≤_, _<_}
 use native.Mathlib.Omega.{arith}
 use native.Mathlib.Numerals.{add-one}
-use lib.ListN.{length, getD, take, set, length-append}
+use lib.ListN.{length, getD, take, set}
 use lib.Seq.{take-suc-set}
 use lib.IntN.{ℤ, pos}
-use lib.Signed.{_≤ℤ_, _<ℤ_, ltZ}
+use lib.Signed.{ltZ}
 use Rattle.ints.specs.Bounds.{Within}
 use Rattle.limits.specs.Limits
-use Rattle.rows.specs.Rows.{Taken}
 use Rattle.turns.specs.Turns.{placedAt}
 use Rattle.turns.specs.Range.{placed-within}
 use Rattle.pieces.specs.declared.placed.Pose.{Pose}

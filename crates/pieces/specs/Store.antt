@@ -3,7 +3,7 @@
 use mathlib.Core.Path.{_≡_, refl, sym, ap, ap₂, _∙_, subst}
 use mathlib.Core.List.{List, [], _∷_, _++_}
 use mathlib.Core.Bool.{Bool, true, false, not, cond}
-use mathlib.Core.Logic.{_⊎_, inl, inr, ⊎-elim}
+use mathlib.Core.Logic.{_⊎_, ⊎-elim}
 use Prim.Native.Nat.{ℕ, zero, suc, _+_, _-_, _*_, _/_, _%_, _≤_, _<_}
 use native.Mathlib.Omega.{arith}
 use native.Mathlib.Numerals.{add-one}
@@ -18,9 +18,9 @@ use Rattle.space.specs.Lists.{Placed}
 use Rattle.rows.specs.Rows.{Taken}
 use Rattle.rows.specs.Cells.{taken-decided}
 use Rattle.turns.specs.Turns.{placedAt}
-use Rattle.marks.specs.Marks.{Axis, Axes, axisOf, isMark, valueOf, placeOf, sideOf, Ranged, RangedMarks, OthersStayMarks}
+use Rattle.marks.specs.Marks.{axisOf, placeOf, sideOf, RangedMarks}
 use Rattle.marks.specs.Order.{mark-low}
-use Rattle.pieces.specs.Pieces.{Store, Loaded, ShapesInOrder, PlaceInOrder, PlacesInOrder, PiecesInOrder, cornersOf, shapeNumber, shapeAt, turnAt, offsetAt, countAt, placedCorner, listTo, pieceAt, leastTo, greatestTo, lesser, greater, lowAt, highAt, takenAt, axesOf}
+use Rattle.pieces.specs.Pieces.{Store, PiecesInOrder, cornersOf, shapeNumber, shapeAt, turnAt, offsetAt, countAt, placedCorner, listTo, pieceAt, leastTo, greatestTo, lesser, greater, lowAt, highAt, takenAt, axesOf}
 use Rattle.pieces.specs.Placed.{numberAt, Held, poseOf, PoseAsked, number-within, least-within, greatest-within, placed-eq}
 
 -- ---- what a taken place is asked with

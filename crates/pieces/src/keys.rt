@@ -10,8 +10,8 @@ ghost use Rattle.marks.specs.Keys.{keyAt, Keyed};
 ghost use Rattle.pieces.specs.Pieces.{storeOf, axesOf, PiecesInOrder};
 ghost use Rattle.pieces.specs.Boxes.{Piece};
 use crate::placed::piece_ends;
-use marks::keys::NO_KEY;
-use marks::keys::mark_key;
+use marks::NO_KEY;
+use marks::mark_key;
 use rows::is_taken;
 
 // The value of a mark of a taken place.

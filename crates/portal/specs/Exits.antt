@@ -1,17 +1,15 @@
 -- The walk's two exits, over any set D of points. Strict: q is the origin. Weak: q = c1 + c2 + c3.
-use mathlib.Core.Path.{_≡_, refl, sym, ap, ap₂, _∙_, subst}
-use mathlib.Core.List.{List, [], _∷_}
+use mathlib.Core.Path.{_≡_, refl, sym, ap, _∙_, subst}
+use mathlib.Core.List.{[], _∷_}
 use mathlib.Core.Logic.{_⊎_, inl, inr, ⊎-elim}
-use lib.IntN.{ℤ, pos, negsuc, negℤ, _+ℤ_, _-ℤ_, _*ℤ_, *ℤ-zero}
-use lib.Signed.{_≤ℤ_, _<ℤ_, clashℤ, <ℤ-irrefl, ≤ℤ-refl}
+use lib.IntN.{ℤ, pos, _+ℤ_, _-ℤ_, _*ℤ_}
+use lib.Signed.{_≤ℤ_, _<ℤ_, clashℤ, <ℤ-irrefl}
 use Rattle.ints.specs.Quote.{sides, by-ring}
-use Rattle.ints.specs.Order.{le-or-lt, trichotomy, le-comb, lt-comb, nn-of-le, pos-of-lt, nn-add, nn-mul, pos-add, pos-mul, lt→≤ℤ, <ℤ-neg, ≤ℤ-neg, ≤ℤ-trans, ≤ℤ-<ℤ-trans, ≤ℤ-antisymm, le-of-eq, pos-factor, zero-product}
+use Rattle.ints.specs.Order.{le-or-lt, le-comb, lt-comb, nn-of-le, pos-of-lt, nn-add, nn-mul, pos-add, pos-mul, lt→≤ℤ, ≤ℤ-<ℤ-trans, ≤ℤ-antisymm}
 use Rattle.space.specs.declared.Vec3.{Vec3}
-use Rattle.space.specs.Vectors.{dot, cross, minus, plus, scale, det, normal, env1, origin, vec-eq}
-use Rattle.space.specs.Ranges.{Upto}
-use Rattle.portal.specs.Portal.{ZeroSum, zero-sum-dot, frame-zero}
-use Rattle.ints.specs.Sign.{Same, Under, lex, lex-other, lex-zero, same-sym, l2, lt-other, gt-other}
-use Rattle.portal.specs.Shift.{front}
+use Rattle.space.specs.Vectors.{dot, plus, det, env1, origin, vec-eq}
+use Rattle.portal.specs.Portal.{zero-sum-dot, frame-zero}
+use Rattle.ints.specs.Sign.{Under, lex, lex-other, same-sym, l2, lt-other, gt-other}
 use Rattle.portal.specs.Sizes.{bigK, posK, hat, hat-dot}
 use Rattle.portal.specs.Step.{Met}
 

@@ -1,14 +1,13 @@
 -- The abstract walk: any integer vectors, no sizes. A portal (a, b, c), a ray r, a point p.
 use mathlib.Core.Path.{_≡_, refl, sym, ap, ap₂, _∙_, subst}
-use mathlib.Core.List.{List, [], _∷_}
-use mathlib.Core.Logic.{_⊎_, inl, inr, ⊎-elim}
-use Prim.Native.Nat.{ℕ, zero, suc}
-use lib.IntN.{ℤ, pos, negsuc, negℤ, _+ℤ_, _-ℤ_, _*ℤ_, *ℤ-zero, zero-*ℤ}
-use lib.Signed.{_≤ℤ_, _<ℤ_, clashℤ, <ℤ-irrefl}
+use mathlib.Core.List.{[], _∷_}
+use mathlib.Core.Logic.{_⊎_, ⊎-elim}
+use lib.IntN.{ℤ, pos, negℤ, _+ℤ_, _-ℤ_, _*ℤ_, zero-*ℤ}
+use lib.Signed.{_≤ℤ_, _<ℤ_, clashℤ}
 use Rattle.ints.specs.Quote.{sides, by-ring}
-use Rattle.ints.specs.Order.{le-or-lt, lt-comb, le-comb, nn-add, nn-mul, pos-add, pos-mul, pos-factor, lt→≤ℤ, <ℤ-neg, ≤ℤ-neg, zero-product}
+use Rattle.ints.specs.Order.{lt-comb, nn-mul, pos-add, pos-mul, pos-factor, lt→≤ℤ, <ℤ-neg, ≤ℤ-neg, zero-product}
 use Rattle.space.specs.declared.Vec3.{Vec3}
-use Rattle.space.specs.Vectors.{dot, cross, minus, plus, scale, det, normal, env1}
+use Rattle.space.specs.Vectors.{dot, cross, det, normal, env1}
 use Rattle.space.specs.Identities.{normal-along, progress}
 
 -- how far the portal is from the origin, and from the ray, each times something positive: h and s

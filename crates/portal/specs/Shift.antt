@@ -1,15 +1,14 @@
 -- Shifted points k p + q and the ray l² c1 + l c2 + c3, for any k and l: the identities K1 to K5, and what they say of signs.
 use mathlib.Core.Path.{_≡_, refl, sym, ap, ap₂, _∙_, subst}
-use mathlib.Core.List.{List, [], _∷_}
-use mathlib.Core.Logic.{_⊎_, inl, inr, ⊎-elim}
-use lib.IntN.{ℤ, pos, negsuc, negℤ, _+ℤ_, _-ℤ_, _*ℤ_, *ℤ-zero}
-use lib.Signed.{_≤ℤ_, _<ℤ_}
+use mathlib.Core.List.{[], _∷_}
+use lib.IntN.{ℤ, pos, negℤ, _+ℤ_, _*ℤ_}
+use lib.Signed.{_<ℤ_}
 use Rattle.ints.specs.Quote.{sides, by-ring}
-use Rattle.ints.specs.Order.{pos-add, pos-mul, pos-factor, lt→≤ℤ, <ℤ-neg}
+use Rattle.ints.specs.Order.{pos-mul, pos-factor, <ℤ-neg}
 use Rattle.space.specs.declared.Vec3.{Vec3}
 use Rattle.space.specs.Vectors.{dot, cross, minus, plus, scale, det, normal, env1, origin}
-use Rattle.portal.specs.Portal.{Inv, depth, reach}
-use Rattle.ints.specs.Sign.{Same, Under, lex, l1, l2, same-trans, same-eq, same-mul, same-lex, lex-assoc, lex-other, lex-zero, gt-other}
+use Rattle.portal.specs.Portal.{Inv, depth}
+use Rattle.ints.specs.Sign.{Same, Under, lex, l1, l2, same-trans, same-eq, same-mul, same-lex, lex-assoc, lex-other, gt-other}
 
 abbrev pub shift : ℤ → Vec3 → Vec3 → Vec3
 shift k q p = plus (scale k p) q

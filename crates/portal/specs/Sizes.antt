@@ -1,19 +1,18 @@
 -- The sizes of the walk. Every coordinate is within H = 2^18 + 2^12 = 266240, those of q within 3H. L = 2^60 and K = 2^180 are shut: what is known of them stands here.
-use mathlib.Core.Path.{_≡_, refl, sym, ap, ap₂, _∙_, subst}
-use mathlib.Core.List.{List, [], _∷_}
-use Prim.Native.Nat.{ℕ, zero, suc, _+_, _*_, _≤_, _<_}
-use lib.Dec.{T, ltb, leb, le→leb}
-use lib.IntN.{ℤ, pos, negsuc, negℤ, natAbs, _+ℤ_, _-ℤ_, _*ℤ_}
+use mathlib.Core.Path.{_≡_, refl, sym, ap, subst}
+use mathlib.Core.List.{[], _∷_}
+use Prim.Native.Nat.{ℕ, _+_, _*_, _≤_, _<_}
+use lib.IntN.{ℤ, pos, negℤ, _+ℤ_, _*ℤ_}
 use lib.Signed.{_≤ℤ_, _<ℤ_}
 use Rattle.ints.specs.Quote.{sides, by-ring}
 use Rattle.ints.specs.Order.{nn-factor, pos-mul}
 use Rattle.ints.specs.Bounds.{Within, known, within, within-upper}
 use Rattle.space.specs.declared.Vec3.{Vec3}
-use Rattle.space.specs.Vectors.{dot, cross, minus, plus, scale, det, normal, env1, origin}
+use Rattle.space.specs.Vectors.{dot, cross, minus, det, normal, env1, origin}
 use Rattle.space.specs.Ranges.{Upto, pointReach, shiftReach}
 use Rattle.portal.specs.Portal.{Inv, depth, reach}
 use Rattle.ints.specs.Sign.{Same, Under, under}
-use Rattle.portal.specs.Shift.{shift, ray, row, side, side-low, front, tie, Under3, k1-sign, k2-sign, k2-normal, k3-one, k3-sign, k4, k4-back, k5, k5-turned}
+use Rattle.portal.specs.Shift.{shift, ray, row, side, side-low, front, tie, k1-sign, k2-sign, k2-normal, k3-one, k3-sign, k4, k4-back, k5, k5-turned}
 
 unfoldable pub bigL : ℤ
 bigL = pos 1152921504606846976

@@ -1,16 +1,16 @@
 -- One turn of the walk: what its signs, all of small numbers, say of the shifted points. The portal is (a, b, c), the support p; the slots' signs are side q p b c, side q p c a, side q p a b.
-use mathlib.Core.Path.{_≡_, refl, sym, ap, ap₂, _∙_, subst}
+use mathlib.Core.Path.{_≡_, sym, ap, ap₂, _∙_, subst}
 use mathlib.Core.Logic.{_⊎_, inl, inr, ⊎-elim}
-use Prim.Native.Nat.{ℕ, zero, suc, _+_, _*_, _≤_, _<_}
-use lib.IntN.{ℤ, pos, negsuc, negℤ, _+ℤ_, _-ℤ_, _*ℤ_, *ℤ-zero}
+use Prim.Native.Nat.{ℕ, _+_, _*_, _≤_, _<_}
+use lib.IntN.{ℤ, pos, negℤ, _+ℤ_, _*ℤ_, *ℤ-zero}
 use lib.Signed.{_≤ℤ_, _<ℤ_, clashℤ}
 use Rattle.ints.specs.Order.{le-or-lt, trichotomy, lt→≤ℤ}
 use Rattle.space.specs.declared.Vec3.{Vec3}
-use Rattle.space.specs.Vectors.{dot, cross, minus, plus, scale, det, normal, env1, origin}
+use Rattle.space.specs.Vectors.{dot, cross, minus, det, normal}
 use Rattle.space.specs.Ranges.{Upto, pointReach, shiftReach}
 use Rattle.portal.specs.Portal.{Inv, Onward, ZeroSum, depth, reach, inv-rot, reach-pos, reach-rot, det-rot, normal-rot, a5, b3, b4, b5-edge, frame-zero, cramer}
 use Rattle.ints.specs.Measure.{measure, falls}
-use Rattle.ints.specs.Sign.{Same, same-nn, same-sym, same-trans, same-eq, lex, lex-both, lt-other, gt-other}
+use Rattle.ints.specs.Sign.{Same, same-nn, same-trans, same-eq, lex, lex-both, lt-other}
 use Rattle.portal.specs.Shift.{side, front, tie}
 use Rattle.portal.specs.Sizes.{bigK, bigS, hat, beam, side-sign, front-sign, tie-sign, tie-one, reach-upper}
 

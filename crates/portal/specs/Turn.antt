@@ -2,8 +2,8 @@
 -- A turn ends in a meeting, or with p in one of the three slots, the portal held and the measure less.
 use mathlib.Core.Path.{_≡_, refl, sym, ap, ap₂, _∙_, subst}
 use mathlib.Core.Bool.{Bool, true, false}
-use mathlib.Core.Logic.{_⊎_, inl, inr, ⊎-elim}
-use Prim.Native.Nat.{ℕ, zero, suc, _+_, _≤_, _<_, max}
+use mathlib.Core.Logic.{_⊎_, inr, ⊎-elim}
+use Prim.Native.Nat.{ℕ, zero, suc, _≤_, _<_, max}
 use native.Mathlib.Nat.{le-trans, le-max-left, le-max-right}
 use native.Mathlib.Omega.{arith}
 use lib.Dec.{T}
@@ -15,7 +15,7 @@ use Rattle.ints.specs.Sign.{lex, lex-assoc}
 use Rattle.ints.specs.Tests.{lt-of-true, le-of-false}
 use Rattle.space.specs.declared.Vec3.{Vec3}
 use Rattle.space.specs.Vectors.{dot, cross, minus, plus}
-use Rattle.space.specs.Ranges.{Upto, pointReach, shiftReach, crossReach}
+use Rattle.space.specs.Ranges.{Upto, pointReach, crossReach}
 use Rattle.portal.specs.Shift.{side, front, tie}
 use Rattle.portal.specs.Step.{Setting, Held, Moved, Met, AllNN, At, held-rot, moved-rot, front-rot, turn-here, turn-next, not-all, meet}
 use Rattle.portal.specs.declared.Three.{Three}

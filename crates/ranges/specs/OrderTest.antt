@@ -1,6 +1,6 @@
 -- Laws of the order test of shapes and places: they are in order shape by shape and place by place.
 -- Each takes what the code's tests say, in their order, to the definitions of Pieces.
-use mathlib.Core.Path.{_≡_, refl, sym, subst}
+use mathlib.Core.Path.{_≡_, refl, sym, ap, _∙_, subst}
 use mathlib.Core.List.{List, []}
 use mathlib.Core.Bool.{Bool, true, false, not}
 use Prim.Native.Nat.{ℕ, _+_, _-_, _*_, _≤_, _<_}
@@ -95,8 +95,8 @@ loaded-decided counts s h = go (eqb (getD counts s 0) 0) refl
     go false t = holds refl (record { shape = h; some = eqb-false (getD counts s 0) 0 t })
 
 -- whether a shape is loaded asks its count alone
-pub loaded-alone : {counts : List ℕ} {k l : List ℤ} {p q : List ℕ} {o u : List ℤ} {s t : ℕ} → s ≡ t → Loaded (storeOf counts k p o) s → Loaded (storeOf counts l q u) t
-loaded-alone {counts} {l} {q} {u} e h = subst (Loaded (storeOf counts l q u)) e (record { shape = h .shape; some = h .some })
+pub loaded-alone : {d e : Store} {s t : ℕ} → d .counts ≡ e .counts → s ≡ t → Loaded d s → Loaded e t
+loaded-alone {e} {s} c k h = subst (Loaded e) k (record { shape = h .shape; some = λ z. h .some (ap (λ (l : List ℕ). getD l s 0) c ∙ z) })
 
 -- a place whose shape is loaded and whose turn is one is in order where its offset is near
 pub place-decided : {r : Bool} (d : Store) (p : ℕ) → Loaded d (shapeAt d p) → turnAt d p < Limits.turns
@@ -108,7 +108,7 @@ place-decided d p l t n = record {
 
 -- the places do not ask where the shapes' corners lie
 pub places-alone : {counts poses : List ℕ} {k l : List ℤ} {offsets : List ℤ} → PlacesInOrder (storeOf counts k poses offsets) → PlacesInOrder (storeOf counts l poses offsets)
-places-alone h = record { all = λ p t. let o = h .all p t in record { loaded = loaded-alone refl (o .loaded); turn = o .turn; offset = o .offset } }
+places-alone h = record { all = λ p t. let o = h .all p t in record { loaded = loaded-alone refl refl (o .loaded); turn = o .turn; offset = o .offset } }
 
 -- ---- both
 

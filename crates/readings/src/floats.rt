@@ -55,8 +55,8 @@ fn scanned(s: scans::Scanned, out: &mut [u8], at: usize) -> usize {
 // `show STEPS`: the bit pattern of the millimetres shown.
 pub fn show(line: &[u8], end: usize, out: &mut [u8], at: usize) -> usize {
     match only_number(line, end) {
-        words::Number::Value(steps) => shown(scans::shown(steps), out, at),
-        words::Number::Bad => out::wrong(out, at),
+        numerals::Number::Value(steps) => shown(scans::shown(steps), out, at),
+        numerals::Number::Bad => out::wrong(out, at),
     }
 }
 
@@ -167,13 +167,13 @@ fn read_floats(line: &[u8], start: usize) -> Floats {
 }
 
 fn three_floats(first: &[u8], second: &[u8], third: &[u8]) -> Floats {
-    let words::Pattern::Value(x) = words::read_pattern(first) else {
+    let hexes::Pattern::Value(x) = hexes::read_pattern(first) else {
         return Floats::Bad;
     };
-    let words::Pattern::Value(y) = words::read_pattern(second) else {
+    let hexes::Pattern::Value(y) = hexes::read_pattern(second) else {
         return Floats::Bad;
     };
-    let words::Pattern::Value(z) = words::read_pattern(third) else {
+    let hexes::Pattern::Value(z) = hexes::read_pattern(third) else {
         return Floats::Bad;
     };
     Floats::Three(float_of(x), float_of(y), float_of(z))

@@ -68,10 +68,10 @@ fn read_request(line: &[u8], end: usize, room: &mut [u8]) -> Request
 fn both_texts(translated: &[u8], english: &[u8], k: usize, room: &mut [u8]) -> Request
     ensures { λ r. ⌜ Kept (length (now (room .entry))) r ⌝ }
 {
-    let words::Text::Bytes(m) = words::read_text(translated, room) else {
+    let hexes::Text::Bytes(m) = hexes::read_text(translated, room) else {
         return Request::Bad;
     };
-    let words::Text::Bytes(n) = words::read_text(english, &mut room[m..]) else {
+    let hexes::Text::Bytes(n) = hexes::read_text(english, &mut room[m..]) else {
         return Request::Bad;
     };
     Request::Show(k, m, m + n)

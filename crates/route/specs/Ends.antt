@@ -1,12 +1,12 @@
 -- The walk itself: what it holds at each turn, and what its two ends say.
 -- It begins with a portal of the set; it ends with all of the set behind the portal, or with a meeting.
-use mathlib.Core.Path.{_≡_, refl, sym, ap, ap₂, _∙_, subst}
-use mathlib.Core.Bool.{Bool, true, false}
+use mathlib.Core.Path.{_≡_, sym, ap, ap₂, _∙_, subst}
+use mathlib.Core.Bool.{true, false}
 use mathlib.Core.Logic.{_⊎_, inl, inr}
 use Prim.Native.Nat.{ℕ, _≤_, _<_}
 use native.Mathlib.Omega.{arith}
 use lib.Dec.{T}
-use lib.IntN.{ℤ, pos}
+use lib.IntN.{pos}
 use lib.Signed.{_≤ℤ_, _<ℤ_}
 use Rattle.ints.specs.Bounds.{known, within}
 use Rattle.ints.specs.Order.{lt-or-ge}
@@ -20,7 +20,7 @@ use Rattle.portal.specs.declared.Three.{Three}
 use Rattle.portal.specs.Sizes.{bigK, front-under}
 use Rattle.portal.specs.Step.{Setting, Held, Met, left}
 use Rattle.portal.specs.Exits.{Behind, x1}
-use Rattle.portal.specs.Turn.{Ready, Turned, Follows, three}
+use Rattle.portal.specs.Turn.{Ready, Turned}
 use Rattle.route.specs.declared.support.Point.{Point}
 use Rattle.route.specs.declared.path.Portal.{Portal}
 use Rattle.route.specs.declared.path.Ended.{Ended}

@@ -2,17 +2,17 @@
 -- What was gathered is a list of fair pairs whose weighted differences have a known sum.
 use mathlib.Core.Path.{_≡_, refl, sym, ap, ap₂, _∙_, subst}
 use mathlib.Core.List.{List, [], _∷_, _++_, List·Memᴰ, List·Memᴰ·append-cases, List·Memᴰ·eq-of-singleton, List·Memᴰ·not-nil}
-use mathlib.Core.Logic.{_⊎_, inl, inr, ⊎-elim}
+use mathlib.Core.Logic.{_⊎_, ⊎-elim}
 use Prim.Native.Nat.{ℕ, zero, suc, _+_, _≤_, _<_}
 use native.Mathlib.Omega.{arith}
 use native.Mathlib.Numerals.{add-one}
 use mir.Syntax.{w64}
 use mir.Val.{toZ, ofZ}
 use mir.Facts.{sfits-lit}
-use lib.ListN.{length, getD, set, take, drop, length-set}
+use lib.ListN.{length, set, take, drop, length-set}
 use lib.Seq.{take-suc-set}
 use lib.IntN.{ℤ, pos, _+ℤ_, _-ℤ_, _*ℤ_, +ℤ-idl, +ℤ-idr, +ℤ-assoc, zero-*ℤ}
-use lib.Signed.{_≤ℤ_, _<ℤ_, clashℤ}
+use lib.Signed.{_≤ℤ_, clashℤ}
 use Rattle.ints.specs.Order.{trichotomy, lt-succ}
 use Rattle.ints.specs.Bounds.{Within, known, within, worth, fits, k-back, k-is, k-within}
 use Rattle.ints.specs.Tests.{same-bits}
@@ -20,14 +20,13 @@ use Rattle.ints.specs.Sign.{lt-other, gt-other}
 use Rattle.limits.specs.Limits.{weightMost}
 use Rattle.space.specs.declared.Vec3.{Vec3}
 use Rattle.space.specs.declared.Pair.{Pair}
-use Rattle.space.specs.Vectors.{minus, det, origin}
+use Rattle.space.specs.Vectors.{minus, det}
 use Rattle.space.specs.Ranges.{Upto, pointReach, weightReach}
-use Rattle.space.specs.Verdicts.{Piece, cornerAt, cornerCount, weighted, Fair, Balance}
+use Rattle.space.specs.Verdicts.{Piece, cornerAt, cornerCount, weighted, Fair}
 use Rattle.route.specs.declared.support.Point.{Point}
 use Rattle.route.specs.declared.path.Ended.{Ended}
 use Rattle.route.specs.declared.gather.Gathered.{Gathered}
-use Rattle.route.specs.NoPairs.{noPair, noPairs}
-use Rattle.route.specs.Points.{Tagged}
+use Rattle.route.specs.NoPairs.{noPairs}
 
 abbrev pub pairOf : Point → ℤ → Pair
 pairOf p w = record { first = p .first; second = p .second; weight = w }

@@ -1,12 +1,11 @@
 -- The set that the walk sees: a − b + σ∘g, over the corners a of the first piece and b of the second and all signs σ.
 -- g is the half-widths of a box: 0 in general, and along the axes that complete its span where the set is flat.
-use mathlib.Core.Path.{_≡_, refl, sym, ap, ap₂, _∙_, subst}
-use mathlib.Core.List.{List, [], _∷_}
+use mathlib.Core.Path.{_≡_, refl, sym, ap, _∙_, subst}
+use mathlib.Core.List.{[], _∷_}
 use mathlib.Core.Logic.{_⊎_, inl, inr, ⊎-elim}
-use Prim.Native.Nat.{ℕ, _+_, _*_, _/_, _≤_, _<_}
+use Prim.Native.Nat.{ℕ, _+_, _*_, _≤_, _<_}
 use native.Mathlib.Omega.{arith}
-use lib.ListN.{length, getD}
-use lib.IntN.{ℤ, pos, negsuc, negℤ, _+ℤ_, _-ℤ_, _*ℤ_}
+use lib.IntN.{ℤ, pos, negsuc, _+ℤ_, _-ℤ_, _*ℤ_}
 use lib.Signed.{_≤ℤ_, _<ℤ_, clashℤ}
 use Rattle.ints.specs.Quote.{sides, by-ring}
 use Rattle.ints.specs.Order.{le-or-lt, le-comb, lt-comb, nn-of-le, pos-of-lt, nn-add, nn-mul, nn-pos, lt→≤ℤ, <ℤ-neg, le-of-eq, <ℤ-cancel, <ℤ-add, ≤ℤ-trans, lt-or-ge}
@@ -16,7 +15,7 @@ use Rattle.space.specs.declared.Vec3.{Vec3}
 use Rattle.space.specs.Vectors.{dot, minus, plus, env1, origin, vec-eq}
 use Rattle.space.specs.Ranges.{Upto, pointReach, normalReach}
 use Rattle.space.specs.Verdicts.{Piece, cornerCount, cornerAt, Below, NotAbove}
-use Rattle.space.specs.Lists.{LengthFits, InReach, Placed}
+use Rattle.space.specs.Lists.{Placed}
 use Rattle.portal.specs.Flat.{had, vec, ones, Sign, Signs}
 use Rattle.portal.specs.Exits.{Support}
 use Rattle.route.specs.declared.support.Point.{Point}

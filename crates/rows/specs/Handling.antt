@@ -1,19 +1,17 @@
 -- Laws for the commands of a desk: rows stay in order when a place is emptied and its rows are cleared, and when the rows of a handled place
--- are put one after the other. A desk started afresh has rows and tallies in order.
-use Prim.Native.Nat.{ℕ, zero, suc, _+_, _*_, _/_, _%_, _<_}
-use mathlib.Core.Path.{_≡_, refl, sym, ap, _∙_, subst}
+-- are put one after the other. A desk started afresh has its rows in order.
+use Prim.Native.Nat.{ℕ, _+_, _*_, _<_}
+use mathlib.Core.Path.{_≡_, refl, sym, _∙_, subst}
 use mathlib.Core.List.{List}
 use mathlib.Core.Bool.{Bool, true, false, not}
 use mathlib.Core.Logic.{_⊎_, inl, inr, ⊎-elim}
 use native.Mathlib.Omega.{arith}
 use lib.Dec.{eqb}
 use lib.ListN.{length, getD, replicate, length-replicate, getD-replicate}
-use borrow.Author.Tests.{ne-eqb}
 use Rattle.limits.specs.Limits
 use Rattle.limits.specs.Decides.{Decides}
-use Rattle.rows.specs.Rows.{Taken, PairOf, rowAt, Verdict, RowsInOrder, BookInOrder, oneIf, countOf, contact, Cleared, Put, OthersStay, Names, Joins, Handled}
-use Rattle.rows.specs.Cells.{by-same, by-less, cell-below, one-cell, taken-decided}
-use Rattle.rows.specs.Counting.{zero-at, book-none}
+use Rattle.rows.specs.Rows.{Taken, PairOf, rowAt, Verdict, RowsInOrder, Cleared, Put, OthersStay, Names, Joins, Handled}
+use Rattle.rows.specs.Cells.{by-same, by-less, cell-below, taken-decided}
 use Rattle.rows.specs.Changes.{rows-once}
 
 -- a place is taken or not, and two are a pair or not
@@ -35,14 +33,6 @@ by-pair poses low high h k f g =
     (λ b. g (λ p. b (p .second))))
     (λ a. g (λ p. a (p .first))))
     (λ le. g (λ p. let r = p .rising in omega arith))
-
--- where rows are in order, a row that is listed is a pair's, the lower place first
-pub contact-pair : {poses rows : List ℕ} → RowsInOrder poses rows → (k : ℕ) → k < Limits.rows → (oneIf (contact (getD rows k 0)) ≡ 0 → ⊥)
-    → PairOf poses (k / Limits.places) (k % Limits.places)
-contact-pair {poses} {rows} o k h c =
-    by-pair poses (k / Limits.places) (k % Limits.places) (omega arith) (omega arith)
-    (λ p. p)
-    (λ f. absurd (c (ap (λ (v : ℕ). oneIf (contact v)) (one-cell o k h .other f))))
 
 -- ---- the poses change at p only
 module _ {p : ℕ} {before after : List ℕ} (s : OthersStay p before after) where
@@ -205,16 +195,4 @@ rows-started none = record {
   size = length-replicate {A = ℕ} Limits.rows Limits.noRow;
   pairs = λ low high o. absurd (none low (o .first));
   others = λ low high h k f. getD-replicate Limits.rows _ Limits.noRow Limits.noRow (cell-below h k);
-}
-
-count-repeated : (v x n : ℕ) → (x ≡ v → ⊥) → countOf v (replicate n x) ≡ 0
-unfolding countOf
-count-repeated v x zero ne = refl
-count-repeated v x (suc n) ne = rw (ne-eqb x v ne) (omega (arith, count-repeated v x n ne))
-
-pub book-started : BookInOrder (replicate Limits.rows Limits.noRow) (replicate Limits.book 0)
-book-started = record {
-  size = book-none .size;
-  counts = λ v h. zero-at Limits.book v ∙ sym (count-repeated v Limits.noRow Limits.rows (λ e. omega arith));
-  rest = book-none .rest;
 }

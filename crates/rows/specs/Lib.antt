@@ -1,7 +1,4 @@
 pub mod Rows
 pub mod Cells
-pub mod Counting
 pub mod Changes
-pub mod Listing
 pub mod Handling
-pub mod Sums

@@ -15,16 +15,16 @@ use Rattle.limits.specs.Lowest.{Refusal, Lowest}
 use Rattle.space.specs.Lists.{LengthFits}
 use Rattle.rows.specs.Rows.{Taken, PairOf, rowAt, Handled}
 use Rattle.rows.specs.Cells.{by-same, by-less}
-use Rattle.rows.specs.Counting.{zero-at}
+use Rattle.tallies.specs.Counting.{zero-at}
 use Rattle.rows.specs.Handling.{pair-stayed, handled-right, handled-other}
 use Rattle.pieces.specs.Pieces.{Store, Sized, Loaded, turnAt, offsetAt}
 use Rattle.pieces.specs.Store.{SameAt}
 use Rattle.numbers.specs.Asked.{Positive}
 use Rattle.state.specs.Desk.{Desk, InOrder, putAt, emptiedAt, loadedIn, loadedAt}
 use Rattle.pairs.specs.Right.{RowRight}
-use Rattle.state.specs.Handled.{PutDown, Emptied}
-use Rattle.state.specs.PutLaws.{put-same, put-others, put-shape, put-turn, put-x, put-y, put-z, empty-same, empty-others, empty-gone}
-use Rattle.state.specs.LoadLaws.{load-same, load-count, load-number, load-count-here, load-number-here}
+use Rattle.handling.specs.Handled.{PutDown, Emptied}
+use Rattle.handling.specs.PutLaws.{put-same, put-others, put-shape, put-turn, put-x, put-y, put-z, empty-same, empty-others, empty-gone}
+use Rattle.loading.specs.LoadLaws.{load-same, load-count, load-number, load-count-here, load-number-here}
 use Rattle.pairs.specs.RowLaws.{right-same}
 use Rattle.numbers.specs.Parts.{Numbered}
 use Rattle.desk.specs.Commands.{freshDesk}

@@ -9,16 +9,17 @@ use lib.IntN.{ℤ, natAbs}
 use lib.ListN.{length}
 use Rattle.limits.specs.Limits
 use Rattle.limits.specs.Lowest.{Refusal, Lowest}
-use Rattle.rows.specs.Rows.{Taken, PairOf, rowAt, BookInOrder}
-use Rattle.rows.specs.Counting.{book-once}
+use Rattle.rows.specs.Rows.{Taken, PairOf, rowAt}
+use Rattle.tallies.specs.Tallies.{BookInOrder}
+use Rattle.tallies.specs.Counting.{book-once}
 use Rattle.rows.specs.Handling.{by-taken, handled-other}
 use Rattle.marks.specs.Marks.{Agree, axisOf, changedMarks}
 use Rattle.marks.specs.Buffer.{one-buffer}
 use Rattle.pieces.specs.Pieces.{pieceAt, takenAt, axesOf}
 use Rattle.pieces.specs.Store.{taken-of, taken-is, empty-is, ranged}
 use Rattle.state.specs.Desk.{Desk, InOrder, loadedAt}
-use Rattle.state.specs.Handled.{PutDown, Emptied}
-use Rattle.state.specs.LoadLaws.{in-place-agrees}
+use Rattle.handling.specs.Handled.{PutDown, Emptied}
+use Rattle.loading.specs.LoadLaws.{in-place-agrees}
 use Rattle.desk.specs.Commands.{numberOf, countOf, Commanded, heldAt, loadRefusals, placeRefusals, moveRefusals, removeRefusals}
 use Rattle.desk.specs.declared.Outcome.{Outcome}
 use Rattle.desk.specs.declared.Outcome.the-variants.{Done, Refused}

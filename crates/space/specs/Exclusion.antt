@@ -3,15 +3,15 @@
 use mathlib.Core.Path.{_≡_, refl, sym, ap, ap₂, _∙_, subst}
 use mathlib.Core.List.{List, [], _∷_, List·Memᴰ, List·Memᴰ·head, List·Memᴰ·tail}
 use mathlib.Core.Logic.{_⊎_, inl, inr, ⊎-elim}
-use Prim.Native.Nat.{ℕ, zero, suc, _+_, _≤_, _<_}
+use Prim.Native.Nat.{ℕ, _+_, _≤_, _<_}
 use native.Mathlib.Omega.{arith}
 use lib.ListN.{length}
-use lib.IntN.{ℤ, pos, _+ℤ_, _-ℤ_, _*ℤ_}
+use lib.IntN.{pos, _+ℤ_, _-ℤ_, _*ℤ_}
 use lib.Signed.{_≤ℤ_, _<ℤ_, <ℤ-irrefl, <ℤ-≤ℤ-trans, ≤ℤ-refl}
 use Rattle.ints.specs.Quote.{sides, by-ring}
 use Rattle.ints.specs.Order.{le-comb, lt-comb, nn-of-le, pos-of-lt, nn-add, nn-mul, pos-add, pos-mul, lt→≤ℤ, pos-suc}
-use Rattle.space.specs.Vectors.{Vec3, dot, minus, origin, env1}
-use Rattle.space.specs.Verdicts.{Piece, Pair, cornerCount, cornerAt, Below, NotAbove, Separate, weighted, Fair, Balance, Meeting, Supported, Touching, Penetrating, VerdictIs, separate, touching, penetrating}
+use Rattle.space.specs.Vectors.{Vec3, dot, minus, env1}
+use Rattle.space.specs.Verdicts.{Piece, Pair, cornerAt, Below, Separate, weighted, Fair, Balance, Meeting, Touching, Penetrating, VerdictIs, separate, touching, penetrating}
 
 -- ---- a balance along a direction d
 weighted-dot : (d : Vec3) (A B : Piece) (ps : List Pair)

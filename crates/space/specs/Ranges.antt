@@ -1,7 +1,7 @@
 -- How large the numbers of a verdict can be. H = 2^18 + 2^12 bounds every coordinate of a difference of placed corners, widened by a box of half-width 4,096 at most.
 -- Every number that the walk computes is a polynomial of such coordinates, and each bound below is the sum of its terms' sizes.
 use mathlib.Core.Path.{_≡_}
-use Prim.Native.Nat.{ℕ, _*_}
+use Prim.Native.Nat.{ℕ}
 use lib.Dec.{T, leb}
 use lib.IntN.{ℤ}
 use Rattle.ints.specs.Bounds.{Known, Within, within, within-le, _&_, and-l, and-r, worth, upto?}

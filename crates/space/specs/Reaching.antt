@@ -3,10 +3,10 @@
 use mathlib.Core.Path.{_≡_, refl, sym, ap, _∙_, subst}
 use mathlib.Core.Bool.{Bool, true, false}
 use mathlib.Core.Logic.{⊎-elim}
-use Prim.Native.Nat.{ℕ, zero, suc, _+_, _*_, _/_, _%_, _≤_, _<_}
+use Prim.Native.Nat.{ℕ, _+_, _/_, _%_, _≤_, _<_}
 use native.Mathlib.Omega.{arith}
 use lib.Dec.{leb}
-use lib.ListN.{length, getD}
+use lib.ListN.{getD}
 use lib.IntN.{ℤ, pos, negℤ, natAbs, _-ℤ_, +ℤ-idl}
 use lib.Signed.{_≤ℤ_, _<ℤ_, clashℤ, leZ}
 use borrow.Author.Tests.{leb-true, leb-false}
@@ -16,7 +16,7 @@ use Rattle.ints.specs.Tests.{le-of-true, lt-of-false}
 use Rattle.limits.specs.Decides.{Decides, holds, fails}
 use Rattle.limits.specs.Limits.{shapeNumbers, placedReach}
 use Rattle.space.specs.Verdicts.{Piece}
-use Rattle.space.specs.Lists.{LengthFits, InReach, Reach}
+use Rattle.space.specs.Lists.{LengthFits, Reach}
 
 -- ---- the length
 pub fits-none : {n : ℕ} → n ≡ 0 → LengthFits n → ⊥

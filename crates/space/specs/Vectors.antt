@@ -1,7 +1,7 @@
 -- Vectors of three whole numbers: the words in which the verdicts are said.
 -- A corner, a difference of corners and a direction are all of this kind.
 use mathlib.Core.Path.{_≡_}
-use mathlib.Core.List.{List, [], _∷_}
+use mathlib.Core.List.{List, _∷_}
 use lib.IntN.{ℤ, pos, _+ℤ_, _-ℤ_, _*ℤ_}
 pub use Rattle.space.specs.declared.Vec3.{Vec3}
 

@@ -1,13 +1,14 @@
 -- THE DESK of document 01: its state, when it is in order, and what a command stores.
 -- The state is lent arrays; `Store` of pieces has the shapes and places, and rows, book and marks stand beside it.
-use mathlib.Core.Path.{_≡_}
 use mathlib.Core.List.{List}
 use Prim.Native.Nat.{ℕ, _+_, _*_, _/_}
 use lib.IntN.{ℤ}
 use lib.ListN.{length, set}
 use lib.Seq.{sets}
+use Rattle.ints.specs.Bounds.{Within}
 use Rattle.limits.specs.Limits
-use Rattle.rows.specs.Rows.{RowsInOrder, BookInOrder}
+use Rattle.rows.specs.Rows.{RowsInOrder}
+use Rattle.tallies.specs.Tallies.{BookInOrder}
 use Rattle.marks.specs.Marks.{InPlaceMarks}
 use Rattle.pieces.specs.Pieces.{Store, PiecesInOrder, axesOf}
 
@@ -29,6 +30,12 @@ pub record InOrder (d : Desk) : Type 0 where
   pub book : BookInOrder (d .rows) (d .book)
 
 -- ---- what a command stores
+-- "an offset of three numbers, each −65,536 to 65,536"
+pub record OffsetFits (x y z : ℤ) : Type 0 where
+  pub on-x : Within Limits.shapeReach x
+  pub on-y : Within Limits.shapeReach y
+  pub on-z : Within Limits.shapeReach z
+
 -- place p holds the shape s − 1 in turn t at the offset x, y, z; every other shape and place stays
 abbrev pub putAt : Store → ℕ → ℕ → ℕ → ℤ → ℤ → ℤ → Store
 putAt d p s t x y z = record {

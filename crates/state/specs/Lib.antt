@@ -1,5 +1,2 @@
 pub mod Desk
-pub mod Handled
-pub mod LoadLaws
 pub mod OrderLaws
-pub mod PutLaws

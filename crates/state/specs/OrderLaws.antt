@@ -1,12 +1,13 @@
 -- The laws by which the order test decides: each test that fails is a field of `InOrder` that does not hold.
 -- The marks are decided through their keys.
-use mathlib.Core.Path.{_≡_, refl, sym, _∙_, subst}
+use mathlib.Core.Path.{sym, _∙_, subst}
 use mathlib.Core.List.{List}
-use mathlib.Core.Bool.{Bool, true, false}
+use mathlib.Core.Bool.{Bool}
 use lib.Dec.{T}
 use Prim.Native.Nat.{ℕ}
-use Rattle.limits.specs.Decides.{Decides, holds, fails}
-use Rattle.rows.specs.Rows.{RowsInOrder, BookInOrder}
+use Rattle.limits.specs.Decides.{Decides}
+use Rattle.rows.specs.Rows.{RowsInOrder}
+use Rattle.tallies.specs.Tallies.{BookInOrder}
 use Rattle.marks.specs.Marks.{Axes, InPlaceMarks}
 use Rattle.marks.specs.Keys.{KeyedMarks}
 use Rattle.marks.specs.Promises.{TestedMarks}

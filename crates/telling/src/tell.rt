@@ -119,7 +119,7 @@ fn tell_load(
     requires { ⌜ codeNumbers ≤ length (now code) ⌝ }
     ensures { λ r. ⌜ Told (load (numberIn (now (code .entry)) 2) (now (numbers .entry)) ∷ []) (deskOf (now (counts .entry)) (now (corners .entry)) (now (poses .entry)) (now (offsets .entry)) (now (rows .entry)) (now (book .entry)) (now (marks .entry))) (deskOf (now (counts .exit)) (now (corners .exit)) (now (poses .entry)) (now (offsets .entry)) (now (rows .entry)) (now (book .entry)) (now (marks .entry))) r ⌝ }
 {
-    let answer = desk::load::load(
+    let answer = loading::load(
         counts,
         corners,
         poses,
@@ -147,7 +147,7 @@ fn tell_place(
     requires { ⌜ codeNumbers ≤ length (now code) ⌝ }
     ensures { λ r. ⌜ Told (place (numberIn (now (code .entry)) 1) (numberIn (now (code .entry)) 2) (numberIn (now (code .entry)) 3) (numberIn (now (code .entry)) 4) (numberIn (now (code .entry)) 5) (numberIn (now (code .entry)) 6) ∷ []) (deskOf (now (counts .entry)) (now (corners .entry)) (now (poses .entry)) (now (offsets .entry)) (now (rows .entry)) (now (book .entry)) (now (marks .entry))) (deskOf (now (counts .entry)) (now (corners .entry)) (now (poses .exit)) (now (offsets .exit)) (now (rows .exit)) (now (book .exit)) (now (marks .exit))) r ⌝ }
 {
-    let answer = desk::place::place(
+    let answer = placing::place(
         counts,
         corners,
         poses,
@@ -179,7 +179,7 @@ fn tell_move(
     requires { ⌜ codeNumbers ≤ length (now code) ⌝ }
     ensures { λ r. ⌜ Told (move (numberIn (now (code .entry)) 1) (numberIn (now (code .entry)) 3) (numberIn (now (code .entry)) 4) (numberIn (now (code .entry)) 5) (numberIn (now (code .entry)) 6) ∷ []) (deskOf (now (counts .entry)) (now (corners .entry)) (now (poses .entry)) (now (offsets .entry)) (now (rows .entry)) (now (book .entry)) (now (marks .entry))) (deskOf (now (counts .entry)) (now (corners .entry)) (now (poses .exit)) (now (offsets .exit)) (now (rows .exit)) (now (book .exit)) (now (marks .exit))) r ⌝ }
 {
-    let answer = desk::moves::move_piece(
+    let answer = moving::move_piece(
         counts,
         corners,
         poses,
@@ -210,6 +210,6 @@ fn tell_remove(
     requires { ⌜ codeNumbers ≤ length (now code) ⌝ }
     ensures { λ r. ⌜ Told (remove (numberIn (now (code .entry)) 1) ∷ []) (deskOf (now (counts .entry)) (now (corners .entry)) (now (poses .entry)) (now (offsets .entry)) (now (rows .entry)) (now (book .entry)) (now (marks .entry))) (deskOf (now (counts .entry)) (now (corners .entry)) (now (poses .exit)) (now (offsets .entry)) (now (rows .exit)) (now (book .exit)) (now (marks .exit))) r ⌝ }
 {
-    let answer = desk::remove::remove(counts, corners, poses, offsets, rows, book, marks, code[AT]);
+    let answer = placing::remove(counts, corners, poses, offsets, rows, book, marks, code[AT]);
     accepted(answer)
 }

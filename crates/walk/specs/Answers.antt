@@ -3,12 +3,11 @@
 use mathlib.Core.Path.{_≡_, sym, ap, _∙_}
 use mathlib.Core.List.{List, [], _∷_}
 use mathlib.Core.Logic.{_⊎_}
-use Prim.Native.Nat.{ℕ, _≤_, _<_}
+use Prim.Native.Nat.{ℕ}
 use native.Mathlib.Decide.{ℕ-discrete}
 use lib.ListN.{length, take, drop}
 use Rattle.limits.specs.Limits.{listLength, placedRange, placedReach, directionReach, done}
 use Rattle.limits.specs.Lowest.{Refusal, Lowest, _when_, lowest-once}
-use Rattle.space.specs.declared.Vec3.{Vec3}
 use Rattle.space.specs.declared.Pair.{Pair}
 use Rattle.space.specs.Vectors.{origin}
 use Rattle.space.specs.Ranges.{Upto}

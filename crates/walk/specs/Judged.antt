@@ -1,6 +1,6 @@
 -- From the ends of the two walks to the verdict and what it carries.
 -- Strict walk: separate, or a meeting; where that is flat, touching; else the weak walk: touching, or penetrating.
-use mathlib.Core.Path.{_≡_, refl, sym, ap, ap₂, _∙_, subst}
+use mathlib.Core.Path.{_≡_, refl, sym, ap, _∙_, subst}
 use mathlib.Core.List.{List, [], _∷_}
 use mathlib.Core.Bool.{Bool, true, false}
 use mathlib.Core.Logic.{_⊎_, inl, inr, ⊎-elim}
@@ -21,13 +21,13 @@ use Rattle.space.specs.declared.Vec3.{Vec3}
 use Rattle.space.specs.declared.Pair.{Pair}
 use Rattle.space.specs.Vectors.{dot, det, normal, env1, origin}
 use Rattle.space.specs.Ranges.{Upto, pointReach, shiftReach, weightReach}
-use Rattle.space.specs.Verdicts.{Piece, cornerAt, cornerCount, weighted, Below, Supported, Balance, separate, touching, penetrating}
+use Rattle.space.specs.Verdicts.{Piece, Below, Supported, Balance, touching, penetrating}
 use Rattle.space.specs.Lists.{LengthFits, InReach, Reach, Placed}
 use Rattle.portal.specs.declared.Three.{Three}
-use Rattle.portal.specs.Portal.{Inv, ZeroSum, depth, cramer}
-use Rattle.portal.specs.Sizes.{bigK, posK, beam, front-under, start, start-turned, start-shifted, plain, plain-nn}
+use Rattle.portal.specs.Portal.{ZeroSum, depth, cramer}
+use Rattle.portal.specs.Sizes.{bigK, posK, front-under, start, start-turned, start-shifted, plain, plain-nn}
 use Rattle.portal.specs.Step.{Setting, Held, Met}
-use Rattle.portal.specs.Exits.{Behind, sum3, w1, w2, wall-some}
+use Rattle.portal.specs.Exits.{sum3, w1, w2, wall-some}
 use Rattle.portal.specs.Flat.{Drops, f4}
 use Rattle.route.specs.declared.support.Point.{Point}
 use Rattle.route.specs.declared.path.Portal.{Portal}

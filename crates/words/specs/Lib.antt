@@ -1,10 +1,3 @@
-pub mod Numbers
-pub mod Magnitude
-pub mod NumberLaws
 pub mod Words
 pub mod WordLaws
 pub mod ReadLaws
-pub mod Print
-pub mod PrintLaws
-pub mod Hex
-pub mod HexLaws

@@ -9,12 +9,12 @@ use native.Mathlib.Omega.{arith}
 use lib.IntN.{ℤ}
 use lib.ListN.{length, getD, drop, set, length-append, length-drop}
 use lib.Seq.{drop-cons, set-at, append-snoc}
-use Rattle.words.specs.Numbers.{Reads}
-use Rattle.words.specs.NumberLaws.{names-once}
+use Rattle.numerals.specs.Numbers.{Reads}
+use Rattle.numerals.specs.NumberLaws.{names-once}
 use Rattle.words.specs.Words.{wordsOf, AreNumbers, filled, Stuck, Listed}
-use Rattle.words.specs.declared.number.Number.the-variants.{Value, Bad}
-use Rattle.words.specs.declared.line.Count.{Count}
-use Rattle.words.specs.declared.line.Count.the-variants.{Numbers, Bad as Failed}
+use Rattle.numerals.specs.declared.Number.the-variants.{Value, Bad}
+use Rattle.words.specs.declared.Count.{Count}
+use Rattle.words.specs.declared.Count.the-variants.{Numbers, Bad as Failed}
 
 -- the words before `left` are n numbers, and they stand in the room
 pub record Done (text left : List ℕ) (room now : List ℤ) (n : ℕ) : Type 0 where

@@ -17,10 +17,6 @@ pub first-more : (b : ℕ) (s : List ℕ) → (b ≡ 32 → ⊥) → firstWord (
 unfolding firstWord
 first-more b s n = if-neg (ℕ-discrete b 32) n _ _
 
-words-more : (b : ℕ) (s : List ℕ) → (b ≡ 32 → ⊥) → wordsOf (b ∷ s) ≡ onto b (wordsOf s)
-unfolding wordsOf
-words-more b s n = if-neg (ℕ-discrete b 32) n _ _
-
 -- the first word is what the line starts with
 pub first-take : (s : List ℕ) → take (length (firstWord s)) s ≡ firstWord s
 unfolding firstWord

@@ -7,10 +7,10 @@ use mathlib.Core.Logic.{_⊎_, ite}
 use native.Mathlib.Decide.{ℕ-discrete}
 use lib.ListN.{length, drop}
 use lib.IntN.{ℤ}
-use Rattle.words.specs.Numbers.{Reads}
-use Rattle.words.specs.declared.number.Number.the-variants.{Value, Bad}
-use Rattle.words.specs.declared.line.Count.{Count}
-use Rattle.words.specs.declared.line.Count.the-variants.{Numbers, Bad as Failed}
+use Rattle.numerals.specs.Numbers.{Reads}
+use Rattle.numerals.specs.declared.Number.the-variants.{Value, Bad}
+use Rattle.words.specs.declared.Count.{Count}
+use Rattle.words.specs.declared.Count.the-variants.{Numbers, Bad as Failed}
 
 -- the bytes before the first space
 unfoldable pub firstWord : List ℕ → List ℕ

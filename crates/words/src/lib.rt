@@ -1,19 +1,56 @@
-// A command line's words, the numbers and the hex that they stand for, and numbers and hex printed into a lent buffer.
-// A line may be any bytes, of any length: what is no number, no pattern or no text is answered by `Bad`.
-mod hex;
-mod line;
-mod number;
-mod print;
+// The words of a line, which exactly one space separates: where a word ends, and a run of words that are numbers.
+// A line is cut at each space, so a space at either end and a double space leave an empty word, which is no number.
+ghost use mathlib.Core.Path.{_≡_};
+ghost use Prim.Native.Nat.{_≤_, _+_, min};
+ghost use lib.ListN.{length, drop};
+ghost use Rattle.words.specs.Words.{firstWord, Listed};
+use numerals::Number;
+use numerals::read_number;
 
-pub use hex::Pattern;
-pub use hex::Text;
-pub use hex::read_pattern;
-pub use hex::read_text;
-pub use line::Count;
-pub use line::read_numbers;
-pub use line::word_end;
-pub use number::Number;
-pub use number::read_number;
-pub use print::put;
-pub use print::put_hex;
-pub use print::put_number;
+// How many numbers were read, or that a word is none or finds no room.
+pub enum Count {
+    Numbers(usize),
+    Bad,
+}
+
+// Where the word ends that starts at a place: at the first space from there on, or at the line's end.
+pub fn word_end(line: &[u8], start: usize) -> usize
+    ensures place { λ r. ⌜ r ≡ min start (length (now (line .entry))) + length (firstWord (drop start (now (line .entry)))) ⌝ }
+    ensures within { λ r. ⌜ r ≤ length (now (line .entry)) ⌝ }
+{
+    if line.len() < start {
+        return line.len();
+    }
+    let mut i = start;
+    while i < line.len() {
+        if line[i] == b' ' {
+            return i;
+        }
+        i += 1;
+    }
+    i
+}
+
+// The words from a place to the line's end, each of them a number, into the room's first cells.
+pub fn read_numbers(line: &[u8], start: usize, room: &mut [i32]) -> Count
+    ensures { λ r. ⌜ Listed (drop start (now (line .entry))) (now (room .entry)) (now (room .exit)) r ⌝ }
+{
+    let mut at = start;
+    let mut n: usize = 0;
+    while at <= line.len() {
+        let end = word_end(line, at);
+        let Number::Value(v) = read_number(&line[at..end]) else {
+            return Count::Bad;
+        };
+        if room.len() <= n {
+            return Count::Bad;
+        }
+        room[n] = v;
+        n += 1;
+        if end == line.len() {
+            return Count::Numbers(n);
+        }
+        at = end + 1;
+    }
+    Count::Bad
+}

@@ -3,7 +3,7 @@ use mir.Syntax.{w64}
 use Rattle.ints.specs.Bounds.{worth, k-is, k-back, k-within}
 use Rattle.portal.specs.Turn.{k-lex, dot-within}
 use borrow.Author.Needs.{needs}
-use Rattle.ints.specs.Bounds.{known, worth, k-is}
+use Rattle.ints.specs.Bounds.{worth, k-is}
 use Rattle.portal.specs.Turn.{k-lex}
 use Rattle.portal.proofs.leading.Statement.{statement}
 use Rattle.portal.proofs.leading.Tie as tie

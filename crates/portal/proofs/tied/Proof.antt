@@ -4,7 +4,6 @@ use lib.IntN.{pos}
 use lib.Signed.{ltZ}
 use mir.Syntax.{w64}
 use Rattle.ints.specs.Bounds.{worth, k-is, k-back, k-within}
-use Rattle.space.specs.Ranges.{upto-le}
 use Rattle.portal.specs.Turn.{tied-is, k-lex, leading-within}
 use borrow.Author.Needs.{needs}
 use Rattle.portal.proofs.tied.Statement.{statement}

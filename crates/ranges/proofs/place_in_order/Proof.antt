@@ -29,7 +29,7 @@ is-loaded-requires c κs = search needs
 returns : tie.Need-returns
 returns c =
     let e = ap (λ (n : ℕ). n - 1) (sym (c .before .before .wide .ensures)) in
-    fails refl (λ o. unless-taken (c .before .is-loaded .ensures) (c .if1 .taken) (loaded-alone e (o .loaded)))
+    fails refl (λ o. unless-taken (c .before .is-loaded .ensures) (c .if1 .taken) (loaded-alone refl e (o .loaded)))
 
 mul-wide-2 : tie.Need-mul-wide-2
 mul-wide-2 c = search needs
@@ -59,7 +59,7 @@ returns-3 c =
     let e = ap (λ (n : ℕ). n - 1) (loading .before .wide .ensures) in
     let turn = c .before .before .before .wide2 .ensures in
     place-decided (storeOf (a .counts .now) [] (a .poses .now) (a .offsets .now)) (a .place)
-    (loaded-alone e (unless-left (loading .is-loaded .ensures) (c .before .before .before .before .before .if1 .left)))
+    (loaded-alone refl e (unless-left (loading .is-loaded .ensures) (c .before .before .before .before .before .if1 .left)))
     (omega (arith, turn, c .before .before .if2 .left)) (c .part-near .ensures)
 
 pub place-in-order-spec : {M : Type 1} → statement M

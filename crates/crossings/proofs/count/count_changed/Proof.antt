@@ -4,8 +4,7 @@ use mathlib.Core.Path.{_≡_, ap, sym, _∙_}
 use Prim.Native.Nat.{ℕ, _-_, _*_, _≤_}
 use native.Mathlib.Omega.{arith}
 use Rattle.limits.specs.Limits
-use Rattle.marks.specs.Marks.{sumTo}
-use Rattle.marks.specs.Counts.{sum-none, sum-more}
+use Rattle.ints.specs.Counts.{sumTo, sum-none, sum-more}
 use Rattle.marks.specs.Changed.{crossedAt, crossed≤, changedKeys, changedKeys≤, true-count}
 use Rattle.crossings.proofs.count.count_changed.Statement.{statement}
 use Rattle.crossings.proofs.count.count_changed.Tie as tie

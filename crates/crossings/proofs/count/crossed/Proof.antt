@@ -4,7 +4,7 @@ use mathlib.Core.Path.{ap, _∙_}
 use mathlib.Core.Bool.{Bool, xor}
 use lib.Dec.{ltb}
 use lib.ListN.{getD}
-use Rattle.marks.specs.Marks.{oneIf}
+use Rattle.ints.specs.Counts.{oneIf}
 use Rattle.crossings.proofs.count.crossed.Statement.{statement}
 use Rattle.crossings.proofs.count.crossed.Tie as tie
 

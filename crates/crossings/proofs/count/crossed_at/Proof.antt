@@ -7,10 +7,10 @@ use Prim.Native.Nat.{ℕ, _+_, _≤_, _<_}
 use native.Mathlib.Omega.{arith}
 use lib.ListN.{getD}
 use borrow.Author.Tests.{eq-eqb, ne-eqb, lt-ltb, le-ltb}
-use lib.Dec.{eqb, ltb}
+use lib.Dec.{ltb}
 use Rattle.marks.specs.Marks.{lowMark, highMark, placeOf}
 use Rattle.marks.specs.Keys.{noKey}
-use Rattle.marks.specs.Counts.{and-false}
+use Rattle.ints.specs.Counts.{and-false}
 use Rattle.marks.specs.Sorted.{notOf}
 use Rattle.marks.specs.Changed.{crossedKeys, crossedAt, pair≤}
 use Rattle.crossings.proofs.count.crossed_at.Statement.{statement}

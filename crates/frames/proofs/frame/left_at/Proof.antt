@@ -1,5 +1,4 @@
 -- `frames::left_at`: by the test that the definition makes.
-use mathlib.Core.Path.{sym, ap}
 use borrow.Author.Tests.{lt-ltb, le-ltb}
 use Rattle.frames.proofs.frame.left_at.Statement.{statement}
 use Rattle.frames.proofs.frame.left_at.Tie as tie

@@ -2,7 +2,6 @@
 use mathlib.Core.Path.{refl, sym, ap, _∙_, subst}
 use mir.Syntax.{w64}
 use mir.Val.{ofZ}
-use lib.IntN.{pos}
 use Rattle.ints.specs.Bounds.{Within}
 use Rattle.limits.specs.Decides.{fails}
 use Rattle.route.specs.Gather.{zero-bits}

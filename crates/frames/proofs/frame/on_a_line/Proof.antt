@@ -1,5 +1,5 @@
 -- `frames::on_a_line`: the frame of the definition, at the axis that was found.
-use mathlib.Core.Path.{_≡_, refl, ap, ap₂, _∙_}
+use mathlib.Core.Path.{ap, ap₂, _∙_}
 use Rattle.space.specs.Vectors.{plus, minus, cross}
 use Rattle.space.specs.Ranges.{upto-le}
 use Rattle.portal.specs.Flat.{unit, nextAxis}

@@ -1,5 +1,4 @@
 -- `lines::verdicts::carried` stays in range and ends. The measure is what is left of the four pairs.
-use borrow.Author.Needs.{needs}
 use Prim.Native.Nat.{_≤_, _-_}
 use mathlib.Core.Path.{_≡_, refl, _∙_}
 use native.Mathlib.Omega.{arith}

@@ -1,5 +1,4 @@
 -- `pairs::row::put_pair`: the pair with the lower place first, or nothing.
-use mathlib.Core.Path.{sym}
 use mathlib.Core.Logic.{inl, inr}
 use native.Mathlib.Omega.{arith}
 use Rattle.pieces.specs.Pieces.{storeOf}

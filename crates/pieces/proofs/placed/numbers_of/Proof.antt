@@ -3,7 +3,7 @@ use Rattle.ints.specs.Bounds.{worth, k-back, k-within}
 use lib.ListN.{length, take, length-set}
 use borrow.Author.Needs.{needs}
 use mathlib.Core.Path.{_≡_, refl, _∙_, subst}
-use Prim.Native.Nat.{ℕ, _+_, _-_, _*_, _/_, _%_, _≤_, _<_}
+use Prim.Native.Nat.{_-_, _*_, _/_, _%_, _≤_}
 use native.Mathlib.Omega.{arith}
 use Rattle.limits.specs.Limits
 use Rattle.pieces.specs.Pieces.{listTo}

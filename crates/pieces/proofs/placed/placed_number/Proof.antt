@@ -2,8 +2,6 @@ use borrow.Author.Needs.{needs}
 use mathlib.Core.Path.{sym, _∙_, subst}
 use Prim.Native.Nat.{_+_, _*_}
 use native.Mathlib.Omega.{arith}
-use lib.IntN.{pos}
-use lib.ListN.{getD}
 use mir.Syntax.{w32}
 use Rattle.limits.specs.Limits
 use Rattle.ints.specs.Bounds.{Within, element, worth, k-back, k-within}

@@ -4,7 +4,7 @@ use Prim.Native.Nat.{_≤_, _+_, _-_}
 use mathlib.Core.Path.{_≡_}
 use native.Mathlib.Omega.{arith}
 use lib.ListN.{length, take, drop, length-take, length-drop}
-use Rattle.words.specs.HexLaws.{text-fits}
+use Rattle.hexes.specs.HexLaws.{text-fits}
 use Rattle.readings.proofs.texts.both_texts.Statement.{statement}
 use Rattle.readings.proofs.texts.both_texts.Tie as tie
 

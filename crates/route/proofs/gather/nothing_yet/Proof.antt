@@ -1,6 +1,5 @@
 -- `route::nothing_yet`: no pair.
 use mathlib.Core.Path.{ap}
-use Rattle.route.specs.declared.gather.Gathered.{Gathered}
 use borrow.Author.Needs.{needs}
 use Rattle.route.proofs.gather.nothing_yet.Statement.{statement}
 use Rattle.route.proofs.gather.nothing_yet.Tie as tie

@@ -1,6 +1,6 @@
 -- `route::boxed`: the three signs are put together.
 use mir.Syntax.{w64}
-use Rattle.ints.specs.Bounds.{known, worth, k-back, k-within}
+use Rattle.ints.specs.Bounds.{worth, k-back, k-within}
 use Rattle.route.specs.Points.{signed-is}
 use borrow.Author.Needs.{needs}
 use Rattle.route.specs.Points.{boxed-by}
