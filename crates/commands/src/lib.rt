@@ -1,5 +1,10 @@
 // From a line to its command: a variant of `Command`, its word below, and the arm that answers it.
 // The desk's commands carry their numbers, so a line that is none of them is found before the desk sees it.
+ghost use mathlib.Core.Path.{_≡_};
+ghost use mathlib.Core.Bool.{true};
+ghost use mathlib.Core.Logic.{_↔_};
+ghost use Rattle.lines.specs.Behind.{behind, Finds};
+ghost use Rattle.commands.specs.Lines.{takes, loadOf, placeOf, moveOf, removeOf, pairOf, plainWords, deskWords, Unknowing, OfDesk, OfWord, PassedOver, CommandOf};
 use lines::parts::Index;
 use lines::parts::numbers_behind;
 use spoils::Cell;
@@ -46,7 +51,9 @@ pub enum Other {
 }
 
 // The command of a line, its numbers in the room's first cells.
-pub fn read(line: &[u8], numbers: &mut [i32]) -> Command {
+pub fn read(line: &[u8], numbers: &mut [i32]) -> Command
+    ensures { λ r. ⌜ CommandOf (now (line .entry)) (now (numbers .entry)) (now (numbers .exit)) r ⌝ }
+{
     if is_passed_over(line) {
         return Command::Other(Other::Nothing);
     }
@@ -54,7 +61,9 @@ pub fn read(line: &[u8], numbers: &mut [i32]) -> Command {
     of_word(&line[0..end], line, end, numbers)
 }
 
-fn is_passed_over(line: &[u8]) -> bool {
+fn is_passed_over(line: &[u8]) -> bool
+    ensures { λ r. ⌜ ((r ≡ true) ↔ PassedOver (now (line .entry))) ⌝ }
+{
     if line.len() == 0 {
         return true;
     }
@@ -62,7 +71,9 @@ fn is_passed_over(line: &[u8]) -> bool {
 }
 
 // The command that a line's first word names.
-fn of_word(word: &[u8], line: &[u8], end: usize, numbers: &mut [i32]) -> Command {
+fn of_word(word: &[u8], line: &[u8], end: usize, numbers: &mut [i32]) -> Command
+    ensures { λ r. ⌜ OfWord (now (word .entry)) (behind (now (line .entry)) end) (now (numbers .entry)) (now (numbers .exit)) r ⌝ }
+{
     if check::same(word, b"length") {
         return Command::Other(Other::Length);
     }
@@ -94,14 +105,18 @@ fn of_word(word: &[u8], line: &[u8], end: usize, numbers: &mut [i32]) -> Command
 }
 
 // A word of the desk, behind which each word is a number.
-fn of_desk(word: &[u8], line: &[u8], end: usize, numbers: &mut [i32]) -> Command {
+fn of_desk(word: &[u8], line: &[u8], end: usize, numbers: &mut [i32]) -> Command
+    ensures { λ r. ⌜ OfDesk (now (word .entry)) (behind (now (line .entry)) end) (now (numbers .entry)) (now (numbers .exit)) r ⌝ }
+{
     let Index::At(n) = numbers_behind(line, end, numbers) else {
         return Command::Other(Other::Unknown);
     };
     numbered(word, &numbers[0..n])
 }
 
-fn numbered(word: &[u8], numbers: &[i32]) -> Command {
+fn numbered(word: &[u8], numbers: &[i32]) -> Command
+    ensures { λ r. ⌜ Finds (now (word .entry)) (deskWords (now (numbers .entry))) Unknowing r ⌝ }
+{
     if check::same(word, b"load") {
         return load_of(numbers);
     }
@@ -117,37 +132,47 @@ fn numbered(word: &[u8], numbers: &[i32]) -> Command {
     if check::same(word, b"pair") {
         return pair_of(numbers);
     }
-    if numbers.len() != 0 {
-        return Command::Other(Other::Unknown);
-    }
-    alone(word)
+    plain(word, numbers)
 }
 
 // A word with nothing behind it.
-fn alone(word: &[u8]) -> Command {
+fn plain(word: &[u8], numbers: &[i32]) -> Command
+    ensures { λ r. ⌜ Finds (now (word .entry)) (plainWords (now (numbers .entry))) Unknowing r ⌝ }
+{
     if check::same(word, b"fresh") {
-        return Command::Tell(Told::Fresh);
+        return alone(numbers, Command::Tell(Told::Fresh));
     }
     if check::same(word, b"contacts") {
-        return Command::Ask(Asked::Contacts);
+        return alone(numbers, Command::Ask(Asked::Contacts));
     }
     if check::same(word, b"rows") {
-        return Command::Ask(Asked::Rows);
+        return alone(numbers, Command::Ask(Asked::Rows));
     }
     if check::same(word, b"tallies") {
-        return Command::Ask(Asked::Tallies);
+        return alone(numbers, Command::Ask(Asked::Tallies));
     }
     if check::same(word, b"marks") {
-        return Command::Ask(Asked::Marks);
+        return alone(numbers, Command::Ask(Asked::Marks));
     }
     if check::same(word, b"report") {
-        return Command::Ask(Asked::Report);
+        return alone(numbers, Command::Ask(Asked::Report));
     }
     Command::Other(Other::Unknown)
 }
 
+fn alone(numbers: &[i32], command: Command) -> Command
+    ensures { λ r. ⌜ r ≡ takes 0 (now (numbers .entry)) command ⌝ }
+{
+    if numbers.len() != 0 {
+        return Command::Other(Other::Unknown);
+    }
+    command
+}
+
 // `load S n n n ..`: any count of numbers behind the shape's.
-fn load_of(numbers: &[i32]) -> Command {
+fn load_of(numbers: &[i32]) -> Command
+    ensures { λ r. ⌜ r ≡ loadOf (now (numbers .entry)) ⌝ }
+{
     if numbers.len() == 0 {
         return Command::Other(Other::Unknown);
     }
@@ -155,7 +180,9 @@ fn load_of(numbers: &[i32]) -> Command {
 }
 
 // `place P S T x y z`
-fn place_of(numbers: &[i32]) -> Command {
+fn place_of(numbers: &[i32]) -> Command
+    ensures { λ r. ⌜ r ≡ placeOf (now (numbers .entry)) ⌝ }
+{
     if numbers.len() != 6 {
         return Command::Other(Other::Unknown);
     }
@@ -170,7 +197,9 @@ fn place_of(numbers: &[i32]) -> Command {
 }
 
 // `move P T x y z`
-fn move_of(numbers: &[i32]) -> Command {
+fn move_of(numbers: &[i32]) -> Command
+    ensures { λ r. ⌜ r ≡ moveOf (now (numbers .entry)) ⌝ }
+{
     if numbers.len() != 5 {
         return Command::Other(Other::Unknown);
     }
@@ -178,7 +207,9 @@ fn move_of(numbers: &[i32]) -> Command {
 }
 
 // `remove P`
-fn remove_of(numbers: &[i32]) -> Command {
+fn remove_of(numbers: &[i32]) -> Command
+    ensures { λ r. ⌜ r ≡ removeOf (now (numbers .entry)) ⌝ }
+{
     if numbers.len() != 1 {
         return Command::Other(Other::Unknown);
     }
@@ -186,7 +217,9 @@ fn remove_of(numbers: &[i32]) -> Command {
 }
 
 // `pair P Q`
-fn pair_of(numbers: &[i32]) -> Command {
+fn pair_of(numbers: &[i32]) -> Command
+    ensures { λ r. ⌜ r ≡ pairOf (now (numbers .entry)) ⌝ }
+{
     if numbers.len() != 2 {
         return Command::Other(Other::Unknown);
     }

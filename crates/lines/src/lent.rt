@@ -1,7 +1,7 @@
 // What is kept from line to line: how much of a lent buffer a command sees.
 // `room N` says how many cells `contacts` and `blank` are lent, and `lend N` how many cells of the marks buffer the desk is.
 ghost use mathlib.Core.Path.{_≡_};
-ghost use Prim.Native.Nat.{_≤_};
+ghost use Prim.Native.Nat.{_≤_, min};
 ghost use lib.ListN.{length};
 use crate::out;
 use crate::parts::Index;
@@ -62,7 +62,8 @@ pub fn lend(line: &[u8], end: usize, lent: &mut [usize; 2], out: &mut [u8], at: 
 
 // So many cells, and never more than there are.
 pub fn at_most(n: usize, most: usize) -> usize
-    ensures { λ r. ⌜ r ≤ most ⌝ }
+    ensures is { λ r. ⌜ r ≡ min n most ⌝ }
+    ensures most { λ r. ⌜ r ≤ most ⌝ }
 {
     if most < n {
         return most;

@@ -1,8 +1,10 @@
 // The parts of a line: where the words behind the command's own begin, exactly one or three of them, or any count that are numbers.
 // `end` is where the command's own word ends.
-ghost use Prim.Native.Nat.{_<_};
-ghost use lib.ListN.{length};
-ghost use Rattle.lines.specs.Held.{Parted, Upto};
+ghost use mathlib.Core.Path.{_≡_};
+ghost use lib.IntN.{pos};
+ghost use lib.ListN.{length, getD};
+ghost use Rattle.lines.specs.Held.{Parted};
+ghost use Rattle.lines.specs.Behind.{behind, NumbersIn, NotNegative};
 
 // Where the first and the second of three words end.
 pub enum Ends {
@@ -64,7 +66,9 @@ pub fn read_index(word: &[u8]) -> Index {
     }
 }
 
-pub fn not_negative(v: i32) -> Index {
+pub fn not_negative(v: i32) -> Index
+    ensures { λ r. ⌜ NotNegative v r ⌝ }
+{
     if v < 0 {
         return Index::Bad;
     }
@@ -73,7 +77,7 @@ pub fn not_negative(v: i32) -> Index {
 
 // The words behind a command's own, each of them a number, into the room's first cells: how many they are.
 pub fn numbers_behind(line: &[u8], end: usize, room: &mut [i32]) -> Index
-    ensures { λ r. ⌜ Upto (length (now (room .entry))) r ⌝ }
+    ensures { λ r. ⌜ NumbersIn (behind (now (line .entry)) end) (now (room .entry)) (now (room .exit)) r ⌝ }
 {
     if line.len() <= end {
         return Index::At(0);
@@ -85,7 +89,9 @@ pub fn numbers_behind(line: &[u8], end: usize, room: &mut [i32]) -> Index
 }
 
 // The number at a place, and 0 where there is none.
-pub fn number_at(numbers: &[i32], i: usize) -> i32 {
+pub fn number_at(numbers: &[i32], i: usize) -> i32
+    ensures { λ r. ⌜ r ≡ getD (now (numbers .entry)) i (pos 0) ⌝ }
+{
     if i < numbers.len() {
         return numbers[i];
     }

@@ -1,16 +1,20 @@
 // The answer to a line, by its command.
 // What the desk has a part in is lent the desk; the rest is not.
+ghost use Prim.Native.Nat.{min};
+ghost use lib.ListN.{length, getD};
+ghost use Rattle.state.specs.Desk.{deskOf};
+ghost use Rattle.mudwicket.specs.Answered.{Found, Answered};
 use crate::input;
 use commands::Command;
 use commands::Other;
 use commands::read;
 use lines::lent;
 use lines::out;
-use panel::asked;
-use panel::told;
+use panel::tell;
 use readings::floats;
 use readings::lists;
 use readings::texts;
+use showing::asked;
 use spoils::spoil;
 
 // Puts the answer to what a turn found, and hands back the next place.
@@ -29,9 +33,11 @@ pub fn answer(
     rows: &mut [u8; limits::ROWS],
     book: &mut [u32; limits::BOOK],
     marks: &mut [u16],
-) -> usize {
+) -> usize
+    ensures { λ _. ⌜ Answered kind (now (line .entry)) (now (numbers .entry)) (min (getD (now (lent .entry)) 1 0) (length (now (marks .entry)))) (deskOf (now (counts .entry)) (now (corners .entry)) (now (poses .entry)) (now (offsets .entry)) (now (rows .entry)) (now (book .entry)) (now (marks .entry))) (deskOf (now (counts .exit)) (now (corners .exit)) (now (poses .exit)) (now (offsets .exit)) (now (rows .exit)) (now (book .exit)) (now (marks .exit))) ⌝ }
+{
     match found(kind, line, numbers) {
-        Command::Tell(t) => told::tell(
+        Command::Tell(t) => tell(
             t,
             numbers,
             lent,
@@ -76,7 +82,9 @@ pub fn answer(
 }
 
 // The command that a turn found.
-fn found(kind: u8, line: &[u8], numbers: &mut [i32]) -> Command {
+fn found(kind: u8, line: &[u8], numbers: &mut [i32]) -> Command
+    ensures { λ r. ⌜ Found kind (now (line .entry)) (now (numbers .entry)) (now (numbers .exit)) r ⌝ }
+{
     if kind == input::LONG {
         return Command::Other(Other::Unknown);
     }

@@ -8,7 +8,7 @@ ghost use Rattle.mudwicket.specs.Held.{Held};
 use input::State;
 use lines::lent;
 use lines::out;
-use panel::told;
+use panel::fresh;
 use readings::texts;
 
 // What is lent to every line: the bytes that were read, the answers that were not written yet, room for a command's texts and for its
@@ -26,7 +26,7 @@ fn main() {
     let mut rows = [0u8; limits::ROWS];
     let mut book = [0u32; limits::BOOK];
     let mut marks = lent::marks();
-    told::fresh(
+    fresh(
         &mut counts,
         &mut corners,
         &mut poses,

@@ -134,7 +134,7 @@ module _ (n m : List ℕ) (r s : List (List ℕ)) where
       let a = names-once (h .0 .0) (subst (λ (l : List ℕ). Reads l (Value x)) i (g .0) .0) in
       ap₂ (λ (y : ℤ) (ys : List ℤ). y ∷ ys) a (same-run (room - 1) ws us vs xs (h .1) (g .1) (omega arith) (omega arith) j (pred-stops n (length vs) room t) (pred-stops m (length xs) room q))
 
-numbers-once : (ws : List (List ℕ)) (vs xs : List ℤ) → AreNumbers ws vs → AreNumbers ws xs → vs ≡ xs
+pub numbers-once : (ws : List (List ℕ)) (vs xs : List ℤ) → AreNumbers ws vs → AreNumbers ws xs → vs ≡ xs
 numbers-once [] [] [] h g = refl
 numbers-once [] [] (x ∷ xs) h g = absurd g
 numbers-once [] (v ∷ vs) xs h g = absurd h
@@ -155,15 +155,15 @@ module _ (m : List ℕ) (s : List (List ℕ)) where
       let j : ws ≡ us ++ m ∷ s = cc in
       all-read (room - 1) ws us vs xs (h .1) (g .1) (omega arith) j (pred-stops m (length xs) room q)
 
-read-all : (text : List ℕ) (room x y : List ℤ) (n : ℕ) → Listed text room x (Numbers n) → Stuck text room y → ⊥
-read-all text room x y n a b = all-read (b .next) (b .rest) (length room) (wordsOf text) (b .words) (a .0) (b .values) (a .1) (b .numbers) (omega (arith, a .2, a .3)) (b .cut) (b .stuck)
+pub never-stuck : {text : List ℕ} {room exit : List ℤ} → Stuck text room exit → (values : List ℤ) → AreNumbers (wordsOf text) values → length values ≤ length room → ⊥
+never-stuck {text} {room} s values h f = all-read (s .next) (s .rest) (length room) (wordsOf text) (s .words) values (s .values) h (s .numbers) f (s .cut) (s .stuck)
 
 pub listed-once : (text : List ℕ) (room x y : List ℤ) (q r : Count) → Listed text room x q → Listed text room y r → (q ≡ r) × (x ≡ y)
 listed-once text room x y (Numbers m) (Numbers n) a b =
     let e = numbers-once (wordsOf text) (a .0) (b .0) (a .1) (b .1) in
     (ap Numbers (a .2 ∙ ap length e ∙ sym (b .2)), a .4 ∙ ap (λ (vs : List ℤ). filled vs room) e ∙ sym (b .4))
-listed-once text room x y (Numbers m) Failed a b = absurd (read-all text room x y m a b)
-listed-once text room x y Failed (Numbers n) a b = absurd (read-all text room y x n b a)
+listed-once text room x y (Numbers m) Failed a b = absurd (never-stuck b (a .0) (a .1) (omega (arith, a .2, a .3)))
+listed-once text room x y Failed (Numbers n) a b = absurd (never-stuck a (b .0) (b .1) (omega (arith, b .2, b .3)))
 listed-once text room x y Failed Failed a b =
     let e = same-run (a .next) (b .next) (a .rest) (b .rest) (length room) (a .words) (b .words) (a .values) (b .values) (a .numbers) (b .numbers) (a .fits) (b .fits) (sym (a .cut) ∙ b .cut) (a .stuck) (b .stuck) in
     (refl, a .left ∙ ap (λ (vs : List ℤ). filled vs room) e ∙ sym (b .left))

@@ -1,9 +1,8 @@
 -- `readings::lists::lists` stays in range: the numbers that were read stand in the room.
 use borrow.Author.Needs.{needs}
-use mathlib.Core.Path.{subst}
 use native.Mathlib.Omega.{arith}
-use lib.ListN.{length}
-use Rattle.lines.specs.Held.{Upto}
+use Rattle.lines.specs.Behind.{behind}
+use Rattle.lines.specs.BehindLaws.{numbers-fit}
 use Rattle.readings.proofs.lists.lists.Statement.{statement}
 use Rattle.readings.proofs.lists.lists.Tie as tie
 
@@ -37,7 +36,8 @@ part-both-lists-start c = search needs
 part-both-lists-end : tie.Need-part-both-lists-end
 part-both-lists-end c =
     let b = c .before .before .before .before .before in
-    omega (arith, subst (Upto (length (b .before .before .before .before .args .room .now))) (c .before .before .n .given .1) (b .numbers-behind .ensures), b .numbers-behind .kept .1 .1 .0)
+    let a = b .before .before .before .before .args in
+    omega (arith, numbers-fit (behind (a .line .now) (a .end)) (a .room .now) _ (c .before .before .n .given .1) (b .numbers-behind .ensures), b .numbers-behind .kept .1 .1 .0)
 
 both-lists-requires : tie.Need-both-lists-requires
 both-lists-requires c κs = search needs

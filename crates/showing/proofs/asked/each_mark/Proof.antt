@@ -1,10 +1,10 @@
--- `panel::asked::each_mark` stays in range and ends. The measure is what is left of the marks.
+-- `showing::asked::each_mark` stays in range and ends. The measure is what is left of the marks.
 use Prim.Native.Nat.{_≤_, _-_}
 use mathlib.Core.Path.{_≡_, _∙_}
 use native.Mathlib.Omega.{arith}
 use lib.ListN.{length}
-use Rattle.panel.proofs.asked.each_mark.Statement.{statement}
-use Rattle.panel.proofs.asked.each_mark.Tie as tie
+use Rattle.showing.proofs.asked.each_mark.Statement.{statement}
+use Rattle.showing.proofs.asked.each_mark.Tie as tie
 
 abbrev Inv-loop : tie.InvT-loop
 Inv-loop marks out₀ at next₀ i₀ out next i = (i ≤ length marks) × (length out ≡ length out₀)

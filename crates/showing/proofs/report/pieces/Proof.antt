@@ -1,8 +1,8 @@
--- `panel::report::pieces` stays in range and ends. The measure is what is left of the places, and no more are counted than were passed.
+-- `showing::report::pieces` stays in range and ends. The measure is what is left of the places, and no more are counted than were passed.
 use Prim.Native.Nat.{_≤_, _-_}
 use native.Mathlib.Omega.{arith}
-use Rattle.panel.proofs.report.pieces.Statement.{statement}
-use Rattle.panel.proofs.report.pieces.Tie as tie
+use Rattle.showing.proofs.report.pieces.Statement.{statement}
+use Rattle.showing.proofs.report.pieces.Tie as tie
 
 abbrev Inv-loop : tie.InvT-loop
 Inv-loop poses n₀ place₀ n place = (place ≤ 64) × (n ≤ place)

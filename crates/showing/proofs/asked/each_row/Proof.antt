@@ -1,10 +1,10 @@
--- `panel::asked::each_row` stays in range and ends. The measure is what is left of the cells.
+-- `showing::asked::each_row` stays in range and ends. The measure is what is left of the cells.
 use Prim.Native.Nat.{_≤_, _-_}
 use mathlib.Core.Path.{_≡_, _∙_}
 use native.Mathlib.Omega.{arith}
 use lib.ListN.{length}
-use Rattle.panel.proofs.asked.each_row.Statement.{statement}
-use Rattle.panel.proofs.asked.each_row.Tie as tie
+use Rattle.showing.proofs.asked.each_row.Statement.{statement}
+use Rattle.showing.proofs.asked.each_row.Tie as tie
 
 abbrev Inv-loop : tie.InvT-loop
 Inv-loop rows in-words out₀ at next₀ k₀ out next k = (k ≤ 4096) × (length out ≡ length out₀)

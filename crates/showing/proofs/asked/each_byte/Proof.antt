@@ -1,10 +1,10 @@
--- `panel::asked::each_byte` stays in range and ends. The measure is what is left of the bytes.
+-- `showing::asked::each_byte` stays in range and ends. The measure is what is left of the bytes.
 use Prim.Native.Nat.{_≤_, _-_}
 use mathlib.Core.Path.{_≡_, _∙_}
 use native.Mathlib.Omega.{arith}
 use lib.ListN.{length}
-use Rattle.panel.proofs.asked.each_byte.Statement.{statement}
-use Rattle.panel.proofs.asked.each_byte.Tie as tie
+use Rattle.showing.proofs.asked.each_byte.Statement.{statement}
+use Rattle.showing.proofs.asked.each_byte.Tie as tie
 
 abbrev Inv-loop : tie.InvT-loop
 Inv-loop bytes out₀ at next₀ i₀ out next i = (i ≤ length bytes) × (length out ≡ length out₀)

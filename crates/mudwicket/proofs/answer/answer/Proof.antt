@@ -1,0 +1,117 @@
+-- `mudwicket::answer::answer` meets its contract: by the command that was found.
+use borrow.Author.Needs.{needs}
+use Prim.Native.Nat.{min}
+use lib.ListN.{length, getD}
+use Rattle.state.specs.Desk.{deskOf}
+use Rattle.mudwicket.specs.AnsweredLaws.{answered-told, answered-asked, answered-spoiled, answered-other}
+use Rattle.mudwicket.proofs.answer.answer.Statement.{statement}
+use Rattle.mudwicket.proofs.answer.answer.Tie as tie
+
+found-requires : tie.Need-found-requires
+found-requires c κs = search needs
+
+enum-known-t : tie.Need-enum-known-t
+enum-known-t c = search needs
+
+tell-requires : tie.Need-tell-requires
+tell-requires c κs = search needs
+
+enum-known-a : tie.Need-enum-known-a
+enum-known-a c = search needs
+
+ask-requires : tie.Need-ask-requires
+ask-requires c κs = search needs
+
+enum-known-cell : tie.Need-enum-known-cell
+enum-known-cell c = search needs
+
+spoil-requires : tie.Need-spoil-requires
+spoil-requires c κs = search needs
+
+enum-known-o : tie.Need-enum-known-o
+enum-known-o c = search needs
+
+other-requires : tie.Need-other-requires
+other-requires c κs = search needs
+
+same-length : tie.Need-same-length
+same-length c = search needs
+
+same-length-2 : tie.Need-same-length-2
+same-length-2 c = search needs
+
+same-length-3 : tie.Need-same-length-3
+same-length-3 c = search needs
+
+returns : tie.Need-returns
+returns c = answered-told (c .before .before .before .before .before .before .before .before .before .before .before .before .before .before .before .before .before .before .before .found .ensures) (c .before .before .before .before .before .before .before .before .before .before .before .before .before .before .before .before .t .given .1) (c .before .before .before .before .tell .ensures)
+
+same-length-4 : tie.Need-same-length-4
+same-length-4 c = search needs
+
+same-length-5 : tie.Need-same-length-5
+same-length-5 c = search needs
+
+same-length-6 : tie.Need-same-length-6
+same-length-6 c = search needs
+
+same-length-7 : tie.Need-same-length-7
+same-length-7 c = search needs
+
+returns-2 : tie.Need-returns-2
+returns-2 c = let a = c .before .before .before .before .before .before .before .before .before .before .before .before .before .before .before .before .before .before .before .before .before .before .before .before .before .args in answered-asked (c .before .before .before .before .before .before .before .before .before .before .before .before .before .before .before .before .before .before .before .found .ensures) (min (getD (a .lent .now) 1 0) (length (a .marks .now))) (deskOf (a .counts .now) (a .corners .now) (a .poses .now) (a .offsets .now) (a .rows .now) (a .book .now) (a .marks .now)) (c .before .before .before .before .before .before .before .before .before .before .before .before .before .before .before .before .a .given .1)
+
+same-length-8 : tie.Need-same-length-8
+same-length-8 c = search needs
+
+same-length-9 : tie.Need-same-length-9
+same-length-9 c = search needs
+
+same-length-10 : tie.Need-same-length-10
+same-length-10 c = search needs
+
+returns-3 : tie.Need-returns-3
+returns-3 c = let a = c .before .before .before .before .before .before .before .before .before .before .before .before .before .before .before .before .before .before .before .before .before .before .before .args in answered-spoiled (c .before .before .before .before .before .before .before .before .before .before .before .before .before .before .before .before .before .found .ensures) (min (getD (a .lent .now) 1 0) (length (a .marks .now))) (deskOf (a .counts .now) (a .corners .now) (a .poses .now) (a .offsets .now) (a .rows .now) (a .book .now) (a .marks .now)) _ (c .before .before .before .before .before .before .before .before .before .before .before .before .before .before .cell .given .1)
+
+same-length-11 : tie.Need-same-length-11
+same-length-11 c = search needs
+
+same-length-12 : tie.Need-same-length-12
+same-length-12 c = search needs
+
+same-length-13 : tie.Need-same-length-13
+same-length-13 c = search needs
+
+returns-4 : tie.Need-returns-4
+returns-4 c = let a = c .before .before .before .before .before .before .before .before .before .before .before .before .before .before .before .before .before .before .before .before .args in answered-other (c .before .before .before .before .before .before .before .before .before .before .before .before .before .before .found .ensures) (min (getD (a .lent .now) 1 0) (length (a .marks .now))) (deskOf (a .counts .now) (a .corners .now) (a .poses .now) (a .offsets .now) (a .rows .now) (a .book .now) (a .marks .now)) (c .before .before .before .before .before .before .before .before .before .before .before .o .given .1)
+
+pub answer-spec : {M : Type 1} → statement M
+answer-spec =
+    tie.close
+    (tie.spec
+    found-requires
+    enum-known-t
+    tell-requires
+    enum-known-a
+    ask-requires
+    enum-known-cell
+    spoil-requires
+    enum-known-o
+    other-requires
+    same-length
+    same-length-2
+    same-length-3
+    returns
+    same-length-4
+    same-length-5
+    same-length-6
+    same-length-7
+    returns-2
+    same-length-8
+    same-length-9
+    same-length-10
+    returns-3
+    same-length-11
+    same-length-12
+    same-length-13
+    returns-4)
