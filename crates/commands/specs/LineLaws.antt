@@ -1,5 +1,5 @@
 -- Laws of a line's command: a word that takes as many numbers as there are gets its command, and another count gets none.
--- A line has one command, but for the cell of a `spoil` (`command-once`).
+-- A line has one command (`command-once`).
 use Prim.Native.Nat.{ℕ, _<_}
 use mathlib.Core.Path.{_≡_, sym, ap, _∙_, subst}
 use mathlib.Core.List.{List, [], _∷_}
@@ -14,10 +14,10 @@ use Rattle.words.specs.ReadLaws.{numbers-once}
 use Rattle.lines.specs.Behind.{behind, NumbersIn, Finds, Missing}
 use Rattle.lines.specs.BehindLaws.{words-are, finds-once}
 use Rattle.lines.specs.declared.parts.Index.the-variants.{At}
-use Rattle.commands.specs.Names.{spoilWord}
+use Rattle.spoils.specs.CellLaws.{cell-once}
 use Rattle.commands.specs.Lines.{unknown, at, takes, loadOf, deskWords, otherWords, Unknowing, OfDesk, OfWord, PassedOver, CommandOf}
 use Rattle.commands.specs.declared.Command.{Command}
-use Rattle.commands.specs.declared.Command.the-variants.{Tell}
+use Rattle.commands.specs.declared.Command.the-variants.{Tell, Spoil}
 use Rattle.commands.specs.declared.Told.the-variants.{Load}
 
 pub takes-as : (k : ℕ) (numbers : List ℤ) (c : Command) → length numbers ≡ k → c ≡ takes k numbers c
@@ -80,18 +80,19 @@ desk-once word ws room x y q r (inl a) (inr b) = absurd (b .0 (a .0) (a .1) (a .
 desk-once word ws room x y q r (inr a) (inl b) = absurd (a .0 (b .0) (b .1) (b .2))
 desk-once word ws room x y q r (inr a) (inr b) = a .1 ∙ sym (b .1)
 
-word-once : (word : List ℕ) (ws : List (List ℕ)) (room x y : List ℤ) (q r : Command) → (word ≡ spoilWord → ⊥) → OfWord word ws room x q → OfWord word ws room y r → q ≡ r
-word-once word ws room x y q r n (inl a) (inl b) = finds-once word otherWords (λ _. ⊥) (λ u v f g. absurd f) q r (a .1) (b .1)
-word-once word ws room x y q r n (inl a) (inr b) = absurd (named-not word otherWords q (b .0) (a .1))
-word-once word ws room x y q r n (inr a) (inl b) = absurd (named-not word otherWords r (a .0) (b .1))
-word-once word ws room x y q r n (inr (m, inl a)) (inr b) = absurd (n (a .0))
-word-once word ws room x y q r n (inr (m, inr a)) (inr (k, inl b)) = absurd (n (b .0))
-word-once word ws room x y q r n (inr (m, inr a)) (inr (k, inr b)) = desk-once word ws room x y q r (a .1) (b .1)
+word-once : (word : List ℕ) (ws : List (List ℕ)) (room x y : List ℤ) (q r : Command) → OfWord word ws room x q → OfWord word ws room y r → q ≡ r
+word-once word ws room x y q r (inl a) (inl b) = finds-once word otherWords (λ _. ⊥) (λ u v f g. absurd f) q r (a .1) (b .1)
+word-once word ws room x y q r (inl a) (inr b) = absurd (named-not word otherWords q (b .0) (a .1))
+word-once word ws room x y q r (inr a) (inl b) = absurd (named-not word otherWords r (a .0) (b .1))
+word-once word ws room x y q r (inr (m, inl a)) (inr (k, inl b)) = a .1 .2 ∙ ap Spoil (cell-once ws room (a .1 .0) (b .1 .0) (a .1 .1) (b .1 .1)) ∙ sym (b .1 .2)
+word-once word ws room x y q r (inr (m, inl a)) (inr (k, inr b)) = absurd (b .0 (a .0))
+word-once word ws room x y q r (inr (m, inr a)) (inr (k, inl b)) = absurd (a .0 (b .0))
+word-once word ws room x y q r (inr (m, inr a)) (inr (k, inr b)) = desk-once word ws room x y q r (a .1) (b .1)
 
-pub command-once : (line : List ℕ) (room x y : List ℤ) (q r : Command) → (firstWord line ≡ spoilWord → ⊥) → CommandOf line room x q → CommandOf line room y r → q ≡ r
-command-once [] room x y q r n a b = a .passed tt .1 ∙ sym (b .passed tt .1)
-command-once (c ∷ s) room x y q r n a b = go (ℕ-discrete c 35)
+pub command-once : (line : List ℕ) (room x y : List ℤ) (q r : Command) → CommandOf line room x q → CommandOf line room y r → q ≡ r
+command-once [] room x y q r a b = a .passed tt .1 ∙ sym (b .passed tt .1)
+command-once (c ∷ s) room x y q r a b = go (ℕ-discrete c 35)
   where
     go : Dec (c ≡ 35) → q ≡ r
     go (yes e) = a .passed e .1 ∙ sym (b .passed e .1)
-    go (no f) = let w = words-are (c ∷ s) in word-once (firstWord (c ∷ s)) (behind (c ∷ s) (length (firstWord (c ∷ s)))) room x y q r n (a .read f _ _ w) (b .read f _ _ w)
+    go (no f) = let w = words-are (c ∷ s) in word-once (firstWord (c ∷ s)) (behind (c ∷ s) (length (firstWord (c ∷ s)))) room x y q r (a .read f _ _ w) (b .read f _ _ w)

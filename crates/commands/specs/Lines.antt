@@ -9,6 +9,7 @@ use lib.IntN.{ℤ, pos}
 use lib.ListN.{length, getD}
 use Rattle.words.specs.Words.{wordsOf, AreNumbers, filled}
 use Rattle.lines.specs.Behind.{Finds, Missing}
+use Rattle.spoils.specs.Cells.{CellOf}
 use Rattle.spoils.specs.declared.Cell.{Cell}
 use Rattle.commands.specs.Names.{lengthWord, lineWord, listsWord, scanWord, showWord, blankWord, roomWord, lendWord, spoilWord, loadWord, placeWord, moveWord, removeWord, pairWord, freshWord, contactsWord, rowsWord, talliesWord, marksWord, reportWord}
 use Rattle.commands.specs.declared.Command.{Command}
@@ -95,11 +96,11 @@ OfDesk word behind room exit c =
     ((numbers : List ℤ) × AreNumbers behind numbers × (length numbers ≤ length room) × (exit ≡ filled numbers room) × Finds word (deskWords numbers) Unknowing c)
     ⊎ (((numbers : List ℤ) → AreNumbers behind numbers → length numbers ≤ length room → ⊥) × (c ≡ unknown))
 
--- of `spoil` only that it is one: which cell, `spoils` says
+-- a word that the desk has no part in, `spoil` with the cell that it names, or a word of the desk
 abbrev pub OfWord : List ℕ → List (List ℕ) → List ℤ → List ℤ → Command → Type 0
 OfWord word behind room exit c =
     ((exit ≡ room) × Finds word otherWords (λ _. ⊥) c)
-    ⊎ (Missing word otherWords × (((word ≡ spoilWord) × ((cell : Cell) × (c ≡ Spoil cell))) ⊎ ((word ≡ spoilWord → ⊥) × OfDesk word behind room exit c)))
+    ⊎ (Missing word otherWords × (((word ≡ spoilWord) × ((cell : Cell) × CellOf behind room cell × (c ≡ Spoil cell))) ⊎ ((word ≡ spoilWord → ⊥) × OfDesk word behind room exit c)))
 
 -- a line of no bytes, and one that begins with `#`, the byte 35, are passed over
 abbrev pub PassedOver : List ℕ → Type 0

@@ -8,7 +8,8 @@ use native.Mathlib.Decide.{decLt}
 use native.Mathlib.Numerals.{add-one}
 use native.Mathlib.Omega.{arith}
 use lib.IntN.{ℤ}
-use lib.ListN.{length, drop}
+use lib.ListN.{length, drop, length-drop}
+use lib.Seq.{drop-drop}
 use Rattle.words.specs.Words.{firstWord, wordsOf, Stuck, Listed}
 use Rattle.words.specs.WordLaws.{first-le, words-last, words-next}
 use Rattle.words.specs.ReadLaws.{never-stuck}
@@ -33,6 +34,24 @@ words-are line =
       | yes h ↦ words-next line h ∙ ap (λ (k : ℕ). firstWord line ∷ wordsOf (drop k line)) (sym (add-one (length (firstWord line)))) ∙ ap (λ (ws : List (List ℕ)). firstWord line ∷ ws) (sym (behind-some line (length (firstWord line)) h))
       | no n ↦ words-last line (omega (arith, first-le line, n)) ∙ ap (λ (ws : List (List ℕ)). firstWord line ∷ ws) (sym (behind-none line (length (firstWord line)) (omega (arith, n))))
     ]
+
+-- and the words behind a word are the next one and the words behind that
+behind-drop : (line : List ℕ) (k m : ℕ) → k ≤ length line → behind (drop k line) m ≡ behind line (k + m)
+unfolding decLt
+behind-drop line k m h =
+    elim (decLt (k + m) (length line)) [
+      | yes l ↦
+          let e : k + (m + 1) ≡ k + m + 1 = omega arith in
+          behind-some (drop k line) m (omega (arith, length-drop k line))
+          ∙ ap wordsOf (drop-drop (m + 1) k line ∙ ap (λ (j : ℕ). drop j line) e)
+          ∙ sym (behind-some line (k + m) l)
+      | no n ↦ behind-none (drop k line) m (omega (arith, length-drop k line, n)) ∙ sym (behind-none line (k + m) (omega (arith, n)))
+    ]
+
+pub behind-next : (line : List ℕ) (end : ℕ) → end < length line → behind line end ≡ firstWord (drop (end + 1) line) ∷ behind line (end + 1 + length (firstWord (drop (end + 1) line)))
+behind-next line end h =
+    let s = drop (end + 1) line in
+    behind-some line end h ∙ words-are s ∙ ap (λ (ws : List (List ℕ)). firstWord s ∷ ws) (behind-drop line (end + 1) (length (firstWord s)) (omega arith))
 
 -- ---- what was read of the words behind
 pub numbers-none : (line : List ℕ) (end : ℕ) (room : List ℤ) → length line ≤ end → NumbersIn (behind line end) room room (At 0)

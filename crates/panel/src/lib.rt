@@ -1,9 +1,12 @@
 // What the desk can be told: start afresh, load, place, move, remove.
 // Each is handed on with its numbers as they stand in the line; the desk refuses what it does not take.
 ghost use mathlib.Core.Path.{_≡_};
+ghost use mathlib.Core.List.{[]};
 ghost use Prim.Native.Nat.{min};
 ghost use lib.ListN.{length, getD, take, drop};
+ghost use Rattle.limits.specs.Limits;
 ghost use Rattle.state.specs.Desk.{deskOf};
+ghost use Rattle.commands.specs.declared.Told.the-variants.{Fresh};
 ghost use Rattle.panel.specs.Does.{Does, Tells};
 use commands::Told;
 use desk::Outcome;
@@ -25,7 +28,9 @@ pub fn fresh(
     rows: &mut [u8; limits::ROWS],
     book: &mut [u32; limits::BOOK],
     marks: &mut [u16],
-) {
+)
+    ensures { λ _. ⌜ Tells Fresh [] (min Limits.marks (length (now (marks .entry)))) (deskOf (now (counts .entry)) (now (corners .entry)) (now (poses .entry)) (now (offsets .entry)) (now (rows .entry)) (now (book .entry)) (now (marks .entry))) (deskOf (now (counts .exit)) (now (corners .exit)) (now (poses .exit)) (now (offsets .exit)) (now (rows .exit)) (now (book .exit)) (now (marks .exit))) ⌝ }
+{
     let m = at_most(limits::MARKS, marks.len());
     start(
         counts,

@@ -1,5 +1,7 @@
 // `spoil PART I V` puts V into cell I of a lent part as it stands, so that a script can hand in a desk that is not in order.
 // It is no command where there is no such cell or V does not fit it.
+ghost use Rattle.lines.specs.Behind.{behind, Finds};
+ghost use Rattle.spoils.specs.Cells.{parts, NoCell, CellOf};
 use lines::out;
 use lines::parts::Index;
 use lines::parts::not_negative;
@@ -19,7 +21,9 @@ pub enum Cell {
 }
 
 // The part's name and the two numbers behind the command's own word, which ends at `end`.
-pub fn cell_of(line: &[u8], end: usize, numbers: &mut [i32]) -> Cell {
+pub fn cell_of(line: &[u8], end: usize, numbers: &mut [i32]) -> Cell
+    ensures { λ r. ⌜ CellOf (behind (now (line .entry)) end) (now (numbers .entry)) r ⌝ }
+{
     if line.len() <= end {
         return Cell::Bad;
     }
@@ -36,7 +40,9 @@ pub fn cell_of(line: &[u8], end: usize, numbers: &mut [i32]) -> Cell {
     of_part(&line[end + 1..name], i, number_at(numbers, 1))
 }
 
-fn of_part(word: &[u8], i: usize, v: i32) -> Cell {
+fn of_part(word: &[u8], i: usize, v: i32) -> Cell
+    ensures { λ r. ⌜ Finds (now (word .entry)) (parts i v) NoCell r ⌝ }
+{
     if check::same(word, b"counts") {
         return Cell::Counts(i, v);
     }

@@ -134,7 +134,7 @@ same-length c = search needs
 
 returns-9 : tie.Need-returns-9
 returns-9 c =
-    inr (missing (c .before .before .before .before .before .before), inl (c .before .before .before .before .same9 .ensures .0 (c .before .before .before .if9 .taken), (c .before .cell-of .result, refl)))
+    inr (missing (c .before .before .before .before .before .before), inl (c .before .before .before .before .same9 .ensures .0 (c .before .before .before .if9 .taken), (c .before .cell-of .result, c .before .cell-of .ensures, refl)))
 
 of-desk-requires : tie.Need-of-desk-requires
 of-desk-requires c κs = search needs
