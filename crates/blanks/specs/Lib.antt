@@ -2,3 +2,4 @@
 pub mod Blanks
 pub mod Chosen
 pub mod Once
+pub mod Order

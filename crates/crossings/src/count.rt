@@ -64,7 +64,7 @@ fn crossed_at(
 }
 
 // The count of a move on one axis.
-pub fn count_changed(
+pub(crate) fn count_changed(
     old: &[u32; limits::AXIS_MARKS],
     new: &[u32; limits::AXIS_MARKS],
     place: usize,

@@ -5,7 +5,7 @@ ghost use Rattle.limits.specs.Limits;
 ghost use Rattle.marks.specs.Promises.{CountedMarks};
 use count::count_changed;
 
-pub mod count;
+mod count;
 
 // How many pairs of a mark of the moved place and a mark of another change their order, over the three axes.
 pub fn count_marks(

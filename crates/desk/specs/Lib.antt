@@ -1,2 +1,3 @@
 pub mod CommandLaws
 pub mod Commands
+pub mod Order

@@ -9,7 +9,7 @@ ghost use Rattle.handling.specs.Handled.{Renewed};
 use pieces::keys::keys_of;
 use reordering::reorder_marks;
 
-pub fn renew_marks(
+pub(crate) fn renew_marks(
     counts: &[u8; limits::SHAPES],
     corners: &[i32; limits::CORNER_NUMBERS],
     poses: &[u8; limits::POSE_NUMBERS],

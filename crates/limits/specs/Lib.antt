@@ -1,4 +1,5 @@
 pub mod Decides
 pub mod Limits
 pub mod Lowest
+pub mod LowestLaws
 pub mod Tied

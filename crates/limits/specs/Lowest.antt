@@ -3,7 +3,9 @@
 use mathlib.Core.Path.{_≡_, sym, _∙_}
 use mathlib.Core.List.{List, [], _∷_}
 use mathlib.Core.Logic.{_⊎_, inl, inr}
+use mathlib.Core.Bool.{Bool, true, _&&_}
 use Prim.Native.Nat.{ℕ}
+use lib.Dec.{T, ltb}
 
 -- a refusal's number, and when it applies: a statement of what was handed in
 pub record Refusal : Type 1 where
@@ -18,6 +20,20 @@ n when C = record { number = n; applies = C }
 abbrev pub Lowest : List Refusal → ℕ → Type 0
 Lowest [] n = n ≡ 0
 Lowest (r ∷ rest) n = (r .applies × (n ≡ r .number)) ⊎ ((r .applies → ⊥) × Lowest rest n)
+
+-- the numbers of a list rise: the first is above 0, and each is above the one before. The first refusal that applies is then the lowest that does
+-- (LowestLaws.antt). Every list of document 01 rises; the list of a request that gives an order of its own is not bound to, and says so by its name
+abbrev pub risesAbove : ℕ → List Refusal → Bool
+risesAbove k [] = true
+risesAbove k (r ∷ rest) = ltb k (r .number) && risesAbove (r .number) rest
+
+abbrev pub Rising : List Refusal → Type 0
+Rising l = T (risesAbove 0 l)
+
+-- n is the number of a refusal of the list that applies, be there others or not
+abbrev pub Applies : List Refusal → ℕ → Type 0
+Applies [] n = ⊥
+Applies (r ∷ rest) n = (r .applies × (n ≡ r .number)) ⊎ Applies rest n
 
 -- the lowest is one number
 pub lowest-once : (l : List Refusal) {m n : ℕ} → Lowest l m → Lowest l n → m ≡ n

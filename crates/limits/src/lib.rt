@@ -93,40 +93,40 @@ pub const SIZE_ZERO: u8 = 19;
 
 pub const PLACED_RANGE: u8 = 20;
 
-pub struct Sizes {
-    pub shapes: usize,
-    pub corners: usize,
-    pub places: usize,
-    pub turns: usize,
-    pub shape_numbers: usize,
-    pub corner_numbers: usize,
-    pub pose_numbers: usize,
-    pub offset_numbers: usize,
-    pub rows: usize,
-    pub axis_marks: usize,
-    pub marks: usize,
-    pub book: usize,
-    pub tallies: usize,
-    pub no_row: u8,
-    pub no_mark: u16,
+struct Sizes {
+    shapes: usize,
+    corners: usize,
+    places: usize,
+    turns: usize,
+    shape_numbers: usize,
+    corner_numbers: usize,
+    pose_numbers: usize,
+    offset_numbers: usize,
+    rows: usize,
+    axis_marks: usize,
+    marks: usize,
+    book: usize,
+    tallies: usize,
+    no_row: u8,
+    no_mark: u16,
 }
 
-pub struct Ranges {
-    pub steps: i32,
-    pub shape_reach: i32,
-    pub placed_reach: i32,
-    pub whole_digits: usize,
-    pub part_digits: usize,
-    pub most_hundredths: u32,
+struct Ranges {
+    steps: i32,
+    shape_reach: i32,
+    placed_reach: i32,
+    whole_digits: usize,
+    part_digits: usize,
+    most_hundredths: u32,
 }
 
-pub struct Refusals {
-    pub desk: [u8; 14],
-    pub text: [u8; 7],
+struct Refusals {
+    desk: [u8; 14],
+    text: [u8; 7],
 }
 
 // The sizes of this file are those of specs/.
-pub fn tied_sizes() -> Sizes
+fn tied_sizes() -> Sizes
     ensures { λ r. ⌜ r ≡ theSizes ⌝ }
 {
     Sizes {
@@ -149,7 +149,7 @@ pub fn tied_sizes() -> Sizes
 }
 
 // The ranges of this file are those of specs/.
-pub fn tied_ranges() -> Ranges
+fn tied_ranges() -> Ranges
     ensures { λ r. ⌜ r ≡ theRanges ⌝ }
 {
     Ranges {
@@ -163,7 +163,7 @@ pub fn tied_ranges() -> Ranges
 }
 
 // The refusals of this file are those of specs/, and each name has its number of document 01.
-pub fn tied_refusals() -> Refusals
+fn tied_refusals() -> Refusals
     ensures { λ r. ⌜ r ≡ theRefusals ⌝ }
 {
     Refusals {

@@ -15,7 +15,8 @@ use Rattle.pieces.specs.Pieces.{Store, Sized, Loaded, storeOf}
 use Rattle.state.specs.Desk.{Desk, InOrder, loadedAt}
 use Rattle.ranges.specs.OrderTest.{loaded-alone}
 use Rattle.numbers.specs.Parts.{Numbered}
-use Rattle.numbers.specs.Index.{Indexed, indexed-is}
+use Rattle.numbers.specs.Index.{Indexed}
+use Rattle.numbers.specs.IndexLaws.{indexed-is}
 use Rattle.numbers.specs.Asked.{Asked}
 use Rattle.desk.specs.Commands.{newShapeRefusals, loadRefusals, Loads}
 use Rattle.desk.specs.CommandLaws.{refuses, accepts}

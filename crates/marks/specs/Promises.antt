@@ -2,22 +2,13 @@
 -- Each first pins its result by a list function or a sum over keys, and then says what that means in document 01's words.
 use mathlib.Core.Path.{_≡_}
 use mathlib.Core.List.{List, _++_}
-use mathlib.Core.Bool.{Bool, true}
+use mathlib.Core.Bool.{true}
 use Prim.Native.Nat.{ℕ, _+_, _-_, _*_, _≤_}
 use Rattle.limits.specs.Limits
 use Rattle.marks.specs.Marks.{Axis, Axes, InPlace, InPlaceMarks, partX, partY, partZ, Ranged, RangedMarks, OthersStay, OthersStayMarks, changed, changedMarks}
 use Rattle.marks.specs.Keys.{Keyed, KeyedMarks, keyOf}
 use Rattle.marks.specs.Sorted.{reordered}
 use Rattle.marks.specs.Changed.{changedKeys}
-
--- the order test's answer for one part, and for the whole buffer: yes exactly where it is in place
-pub record Tested (keys part : List ℕ) (answer : Bool) : Type 0 where
-  pub right : (a : Axis) → Keyed a keys → answer ≡ true → InPlace a part
-  pub whole : (a : Axis) → Keyed a keys → InPlace a part → answer ≡ true
-
-pub record TestedMarks (x y z marks : List ℕ) (answer : Bool) : Type 0 where
-  pub right : (a : Axes) → KeyedMarks a x y z → answer ≡ true → InPlaceMarks a marks
-  pub whole : (a : Axes) → KeyedMarks a x y z → InPlaceMarks a marks → answer ≡ true
 
 -- the marks of a place go out, and in again by their new keys if it is taken: a place, a move and a removal keep the part, and the buffer, in place
 pub record Reordered (keys : List ℕ) (place : ℕ) (before after : List ℕ) : Type 0 where

@@ -18,7 +18,8 @@ use Rattle.state.specs.Desk.{Desk, InOrder, OffsetFits}
 use Rattle.handling.specs.PutLaws.{put-others-marks}
 use Rattle.handling.specs.Handled.{MayPut, may-handed, PutDown, put-handed}
 use Rattle.numbers.specs.Parts.{Numbered, takenRefusals, placementRefusals}
-use Rattle.numbers.specs.Index.{Indexed, indexed-is, CellOf}
+use Rattle.numbers.specs.Index.{Indexed, CellOf}
+use Rattle.numbers.specs.IndexLaws.{indexed-is}
 use Rattle.numbers.specs.Asked.{Asked, asked-refused, positive, lowest-first, lowest-then, TakenAsked, PlacementAsked, placement-handed}
 use Rattle.desk.specs.Commands.{heldAt, MovedBy, moveRefusals, Moves}
 use Rattle.desk.specs.CommandLaws.{refuses, accepts}
@@ -81,7 +82,7 @@ module _ (d : Desk) (place turn x y z : ℤ) {a c u v w : ℤ} (ea : a ≡ place
     at-is = indexed-is (subst (λ (j : ℤ). Indexed Limits.places j i) ea ii) (move-given .numbered)
 
     turn-is : t ≡ natAbs turn
-    turn-is = subst (λ (j : ℤ). CellOf Limits.turns j t) ec it .is (omega arith) (move-given .turned)
+    turn-is = subst (λ (j : ℤ). CellOf Limits.turns j t) ec it .is (move-given .turned)
 
     pub may-move : MayPut d i (heldAt (d .store .poses) i) t u v w
     may-move =

@@ -1,3 +1,4 @@
 pub mod Asked
 pub mod Index
+pub mod IndexLaws
 pub mod Parts

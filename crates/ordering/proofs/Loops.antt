@@ -12,7 +12,7 @@ use lib.ListN.{length, getD, drop}
 use lib.Seq.{drop-cons, drop-length}
 use Rattle.limits.specs.Limits
 use Rattle.marks.specs.Keys.{noKey}
-use Rattle.ordering.specs.Test.{climbs, blank}
+use Rattle.ordering.specs.Tested.{climbs, blank}
 
 -- climbing keys
 module _ (e : ℕ → ℕ) (k i a : ℕ) (xs : List ℕ) (h : i < length xs) (is : a ≡ e (getD xs i 0)) where

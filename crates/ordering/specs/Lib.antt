@@ -1,1 +1,2 @@
+pub mod Tested
 pub mod Test

@@ -1,37 +1,24 @@
--- The order test of one part: as many marks as there are keys, climbing, and then noMark alone.
--- It passes exactly where the part is in place.
+-- Laws of the order test of one part: for the keys of an axis it passes exactly where the part is in place.
+-- And what each way through the test tells.
 use mathlib.Core.Path.{_≡_, refl, ap, sym, _∙_, subst}
 use mathlib.Core.Logic.{inl, inr}
 use mathlib.Core.List.{List, [], _∷_, _++_}
-use mathlib.Core.Bool.{Bool, true, _&&_}
+use mathlib.Core.Bool.{Bool, true, false, false≢true, _&&_}
 use Prim.Native.Nat.{ℕ, zero, suc, _+_, _≤_, _<_}
 use native.Mathlib.Omega.{arith}
-use borrow.Author.Tests.{eq-eqb, eqb-true, le-leb, leb-true, lt-ltb, ltb-true}
+use borrow.Author.Tests.{eq-eqb, ne-eqb, eqb-true, le-leb, leb-true, lt-ltb, ltb-true}
 use lib.Dec.{eqb, leb, ltb}
 use lib.ListN.{length, take, drop, take-append-drop}
 use lib.Seq.{length-take-le}
 use Rattle.limits.specs.Limits
-use Rattle.marks.specs.Marks.{Axis, InPlace}
+use Rattle.marks.specs.Marks.{Axis, InPlace, partX, partY, partZ, axisOf}
 use Rattle.ints.specs.Counts.{oneIf, sumTo, countOf, hit, hit-self, less, and-true, oneIf≤, oneIf-true, count-append, sum-one, sum-same, sum-count, sum-squeeze}
 use Rattle.marks.specs.Keys.{noKey, keyAt, Keyed, keyOf}
 use Rattle.marks.specs.Rising.{rises, up-head, up-make, up-none}
 use Rattle.marks.specs.Sorted.{Fine, Sorted, keyed, keyed-low, top-key, counted}
 use Rattle.marks.specs.Order.{fine, keys-are}
 use Rattle.marks.specs.Cells.{in-place, sorted}
-
--- each has a key of its own, from k on, and the keys climb
-unfoldable pub climbs : (ℕ → ℕ) → ℕ → List ℕ → Bool
-climbs e k [] = true
-climbs e k (x ∷ xs) = (leb k (e x) && ltb (e x) noKey) && climbs e (suc (e x)) xs
-
--- noMark alone
-unfoldable pub blank : List ℕ → Bool
-blank [] = true
-blank (x ∷ xs) = eqb x Limits.noMark && blank xs
-
--- how many marks there are
-unfoldable pub marksIn : (ℕ → ℕ) → ℕ
-marksIn e = sumTo Limits.axisMarks (λ q. oneIf (keyed e q))
+use Rattle.ordering.specs.Tested.{climbs, blank, marksIn, partPasses, marksPass, Tested, TestedMarks}
 
 pub marks-most : (e : ℕ → ℕ) → marksIn e ≤ Limits.axisMarks
 unfolding marksIn
@@ -213,3 +200,82 @@ module _ (a : Axis) (keys : List ℕ) (k : Keyed a keys) (xs : List ℕ) where
   test-whole p =
       subst (λ (e : ℕ → ℕ). (climbs e 0 (take (marksIn e) xs) ≡ true) × (blank (drop (marksIn e) xs) ≡ true)) (sym (keys-are a keys k))
       (passed (keyAt a) (fine a (k .ranged)) xs (sorted a (k .ranged) xs p))
+
+-- the three ways through the test of a part
+module _ (keys part : List ℕ) where
+  abbrev climb : Bool
+  climb = climbs (keyOf keys) 0 (take (marksIn (keyOf keys)) part)
+
+  abbrev rest : Bool
+  rest = blank (drop (marksIn (keyOf keys)) part)
+
+  pub not-long : (length part ≡ Limits.axisMarks → ⊥) → Tested keys part false
+  unfolding partPasses
+  not-long n = record {
+    is = ap (λ (b : Bool). b && (climb && rest)) (sym (ne-eqb (length part) Limits.axisMarks n));
+    right = λ a k e. absurd (false≢true e);
+    whole = λ a k p. absurd (n (p .long));
+  }
+
+  pub not-climbing : length part ≡ Limits.axisMarks → climbs (keyOf keys) 0 (take (marksIn (keyOf keys)) part) ≡ false → Tested keys part false
+  unfolding partPasses
+  not-climbing l c = record {
+    is = sym (ap (λ (b : Bool). b && (climb && rest)) (eq-eqb (length part) Limits.axisMarks l) ∙ ap (λ (b : Bool). b && rest) c);
+    right = λ a k e. absurd (false≢true e);
+    whole = λ a k p. absurd (false≢true (sym c ∙ test-whole a keys k part p .0));
+  }
+
+  pub then-blank : {b : Bool} → length part ≡ Limits.axisMarks → climbs (keyOf keys) 0 (take (marksIn (keyOf keys)) part) ≡ true → b ≡ blank (drop (marksIn (keyOf keys)) part) → Tested keys part b
+  unfolding partPasses
+  then-blank l c e = record {
+    is = e ∙ sym (ap (λ (b : Bool). b && (climb && rest)) (eq-eqb (length part) Limits.axisMarks l) ∙ ap (λ (b : Bool). b && rest) c);
+    right = λ a k y. test-right a keys k part l c (sym e ∙ y);
+    whole = λ a k p. e ∙ test-whole a keys k part p .1;
+  }
+
+-- and of the buffer: its length, and then each axis by its own part
+module _ (x y z marks : List ℕ) where
+  pub marks-not-long : (length marks ≡ Limits.marks → ⊥) → TestedMarks x y z marks false
+  marks-not-long n = record {
+    is = ap (λ (b : Bool). b && (partPasses x (partX marks) && (partPasses y (partY marks) && partPasses z (partZ marks)))) (sym (ne-eqb (length marks) Limits.marks n));
+    right = λ a k e. absurd (false≢true e);
+    whole = λ a k p. absurd (n (p .long));
+  }
+
+  module _ (l : length marks ≡ Limits.marks) {bx : Bool} (tx : Tested x (partX marks) bx) where
+    past-length : {b : Bool} → b ≡ (bx && (partPasses y (partY marks) && partPasses z (partZ marks))) → b ≡ marksPass x y z marks
+    past-length e =
+        e ∙ ap (λ (b : Bool). b && (partPasses y (partY marks) && partPasses z (partZ marks))) (tx .is)
+        ∙ sym (ap (λ (b : Bool). b && (partPasses x (partX marks) && (partPasses y (partY marks) && partPasses z (partZ marks)))) (eq-eqb (length marks) Limits.marks l))
+
+    pub x-fails : bx ≡ false → TestedMarks x y z marks false
+    x-fails f = record {
+      is = past-length (ap (λ (b : Bool). b && (partPasses y (partY marks) && partPasses z (partZ marks))) (sym f));
+      right = λ a k e. absurd (false≢true e);
+      whole = λ a k p. absurd (false≢true (sym f ∙ tx .whole (axisOf a 0) (k .on-x) (p .on-x)));
+    }
+
+    module _ (sx : bx ≡ true) {by : Bool} (ty : Tested y (partY marks) by) where
+      past-x : {b : Bool} → b ≡ (by && partPasses z (partZ marks)) → b ≡ marksPass x y z marks
+      past-x e =
+          past-length (e ∙ ap (λ (b : Bool). b && partPasses z (partZ marks)) (ty .is)
+          ∙ ap (λ (b : Bool). b && (partPasses y (partY marks) && partPasses z (partZ marks))) (sym sx))
+
+      pub y-fails : by ≡ false → TestedMarks x y z marks false
+      y-fails f = record {
+        is = past-x (ap (λ (b : Bool). b && partPasses z (partZ marks)) (sym f));
+        right = λ a k e. absurd (false≢true e);
+        whole = λ a k p. absurd (false≢true (sym f ∙ ty .whole (axisOf a 1) (k .on-y) (p .on-y)));
+      }
+
+      pub z-decides : by ≡ true → {b : Bool} → Tested z (partZ marks) b → TestedMarks x y z marks b
+      z-decides sy tz = record {
+        is = past-x (tz .is ∙ ap (λ (b : Bool). b && partPasses z (partZ marks)) (sym sy));
+        right = λ a k e. record {
+          long = l;
+          on-x = tx .right (axisOf a 0) (k .on-x) sx;
+          on-y = ty .right (axisOf a 1) (k .on-y) sy;
+          on-z = tz .right (axisOf a 2) (k .on-z) e;
+        };
+        whole = λ a k p. tz .whole (axisOf a 2) (k .on-z) (p .on-z);
+      }

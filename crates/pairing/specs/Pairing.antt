@@ -14,7 +14,8 @@ use Rattle.walk.specs.Answers.{nothing, Carries}
 use Rattle.walk.specs.declared.Answer.{Answer}
 use Rattle.state.specs.Desk.{Desk, InOrder}
 use Rattle.numbers.specs.Parts.{twoRefusals}
-use Rattle.numbers.specs.Index.{Indexed, indexed-is}
+use Rattle.numbers.specs.Index.{Indexed}
+use Rattle.numbers.specs.IndexLaws.{indexed-is}
 use Rattle.numbers.specs.Asked.{MayPair, PairAsked}
 use Rattle.desk.specs.Commands.{Pairs}
 use Rattle.desk.specs.CommandLaws.{pair-refuses, pair-answers}

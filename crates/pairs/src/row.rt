@@ -18,7 +18,7 @@ use walk::Answer;
 use walk::verdict;
 
 // The right row of two taken places.
-pub fn row_of(
+fn row_of(
     counts: &[u8; limits::SHAPES],
     corners: &[i32; limits::CORNER_NUMBERS],
     poses: &[u8; limits::POSE_NUMBERS],

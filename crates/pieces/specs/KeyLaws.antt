@@ -8,13 +8,13 @@ use Prim.Native.Nat.{ℕ, _+_, _/_, _%_, _≤_, _<_}
 use native.Mathlib.Omega.{arith}
 use lib.IntN.{ℤ}
 use lib.ListN.{length, getD, set}
-use lib.Seq.{getD-set-same, getD-set-other}
+use lib.Seq.{getD-set-same, getD-set-other, ext-getD}
 use borrow.Author.Tests.{eq-eqb, ne-eqb, lt-ltb}
 use Rattle.ints.specs.Order.{lt-or-ge}
 use Rattle.limits.specs.Limits
 use Rattle.rows.specs.Rows.{Taken}
 use Rattle.marks.specs.Marks.{Axis, axisOf, isMark, valueOf}
-use Rattle.marks.specs.Keys.{keyAt, keyFor, noKey}
+use Rattle.marks.specs.Keys.{keyAt, keyFor, noKey, Keyed}
 use Rattle.marks.specs.Order.{at-mark, at-none}
 use Rattle.pieces.specs.Pieces.{Store, axesOf, takenAt, lowAt, highAt}
 use Rattle.pieces.specs.Store.{taken-is, empty-is}
@@ -43,3 +43,7 @@ keys-more a keys n key l h e k lt = ⊎-elim
     (λ (m : k < n). getD-set-other keys n k key 0 (λ q. omega arith) ∙ h k m)
     (λ (m : n ≤ k). let q : k ≡ n = omega arith in ap (λ j. getD (set keys n key) j 0) q ∙ getD-set-same keys n key 0 l ∙ e ∙ ap (keyAt a) (sym q))
     (lt-or-ge k n)
+
+-- an axis has one list of keys as long as there are marks
+pub keys-once : {a : Axis} {k l : List ℕ} → length k ≡ Limits.axisMarks → length l ≡ Limits.axisMarks → Keyed a k → Keyed a l → k ≡ l
+keys-once {k} {l} m n x y = ext-getD 0 k l (m ∙ sym n) (λ i h. x .is i (omega arith) ∙ sym (y .is i (omega arith)))

@@ -3,11 +3,11 @@
 use mathlib.Core.Path.{_≡_, sym, ap, ap₂, _∙_}
 use mathlib.Core.List.{List, [], _∷_, _++_}
 use mathlib.Core.Bool.{Bool, true, false, cond}
-use Prim.Native.Nat.{ℕ, zero, suc, _+_, _-_, _*_, _≤_, _<_}
+use Prim.Native.Nat.{ℕ, zero, suc, _+_, _-_, _*_, _/_, _%_, _≤_, _<_}
 use native.Mathlib.Omega.{arith}
 use native.Mathlib.Numerals.{add-one}
-use lib.ListN.{length, getD, take, set}
-use lib.Seq.{take-suc-set}
+use lib.ListN.{length, getD, take, drop, set, replicate}
+use lib.Seq.{take-suc-set, drop-set-lt, drop-drop}
 use lib.IntN.{ℤ, pos}
 use lib.Signed.{ltZ}
 use Rattle.ints.specs.Bounds.{Within}
@@ -40,6 +40,11 @@ pub record EndsOf (corners offsets : List ℤ) (pose : Pose) (place axis : ℕ) 
   pub low : r .low ≡ Pieces.leastTo (pose .count) (λ i. numberAt corners offsets pose place i axis)
   pub high : r .high ≡ Pieces.greatestTo (pose .count) (λ i. numberAt corners offsets pose place i axis)
 
+-- the piece's numbers in front of an array, and 0 after them
+pub record NumbersOf (corners offsets : List ℤ) (pose : Pose) (place : ℕ) (r : List ℤ) : Type 0 where
+  pub is : take (3 * pose .count) r ≡ Pieces.listTo (3 * pose .count) (λ k. numberAt corners offsets pose place (k / 3) (k % 3))
+  pub rest : drop (3 * pose .count) r ≡ replicate (Limits.shapeNumbers - 3 * pose .count) (pos 0)
+
 -- the pose of a place, and what reading it asks
 abbrev pub poseOf : List ℕ → List ℕ → ℕ → Pose
 poseOf counts poses place = record { start = (getD poses (2 * place) 0 - 1) * Limits.shapeNumbers; count = getD counts (getD poses (2 * place) 0 - 1) 0; turn = getD poses (2 * place + 1) 0 }
@@ -57,6 +62,11 @@ list-more n f = ap (λ k. Pieces.listTo k f) (add-one n)
 pub stored-more : (numbers : List ℤ) (n : ℕ) (f : ℕ → ℤ) (v : ℤ) → n < length numbers → take n numbers ≡ Pieces.listTo n f → v ≡ f n → take (n + 1) (set numbers n v) ≡ Pieces.listTo (n + 1) f
 stored-more numbers n f v h e ev =
     ap (λ k. take k (set numbers n v)) (add-one n) ∙ take-suc-set numbers n v h ∙ ap₂ (λ l w. l ++ (w ∷ [])) e ev ∙ sym (list-more n f)
+
+pub zeros-more : (numbers : List ℤ) (n m : ℕ) (v : ℤ) → n < m → drop n numbers ≡ replicate (m - n) (pos 0) → drop (n + 1) (set numbers n v) ≡ replicate (m - (n + 1)) (pos 0)
+zeros-more numbers n m v h e =
+    let s : m - n ≡ suc (m - (n + 1)) = omega arith in
+    drop-set-lt (n + 1) numbers n v (omega arith) ∙ sym (drop-drop 1 n numbers) ∙ ap (drop 1) (e ∙ ap (λ (k : ℕ). replicate k (pos 0)) s)
 
 pub least-more : (n : ℕ) (f : ℕ → ℤ) → 1 ≤ n → Pieces.leastTo (n + 1) f ≡ Pieces.lesser (f n) (Pieces.leastTo n f)
 unfolding Pieces.leastTo

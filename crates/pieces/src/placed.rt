@@ -1,14 +1,15 @@
 // The piece at a taken place: its placed corners as a list, its ends on an axis, and whether two pieces' boxes are apart.
 // A turned and moved corner is worked out coordinate by coordinate, where it is needed.
 ghost use mathlib.Core.Path.{_≡_};
-ghost use Prim.Native.Nat.{_≤_, _<_, _*_, _/_, _%_};
-ghost use lib.ListN.{length, take};
+ghost use Prim.Native.Nat.{_≤_, _<_};
+ghost use lib.IntN.{pos};
+ghost use lib.ListN.{replicate};
 ghost use Rattle.ints.specs.Bounds.{Within};
 ghost use Rattle.limits.specs.Limits;
 ghost use Rattle.limits.specs.Decides.{Decides};
-ghost use Rattle.pieces.specs.Pieces.{lesser, greater, listTo, storeOf, countAt};
+ghost use Rattle.pieces.specs.Pieces.{lesser, greater, storeOf, countAt};
 ghost use Rattle.pieces.specs.Boxes.{Piece, Numbers, EndsAt, ApartOn, Apart};
-ghost use Rattle.pieces.specs.Placed.{numberAt, Held, PoseAsked, poseOf, EndsOf};
+ghost use Rattle.pieces.specs.Placed.{numberAt, Held, NumbersOf, PoseAsked, poseOf, EndsOf};
 use turns::placed_axis;
 
 // The least and the greatest placed corner on one axis.
@@ -98,7 +99,7 @@ fn ends_of(
 }
 
 fn no_numbers() -> [i32; limits::SHAPE_NUMBERS]
-    ensures { λ r. ⌜ length r ≡ Limits.shapeNumbers ⌝ }
+    ensures { λ r. ⌜ r ≡ replicate Limits.shapeNumbers (pos 0) ⌝ }
 {
     [0i32; limits::SHAPE_NUMBERS]
 }
@@ -111,7 +112,7 @@ fn numbers_of(
     place: usize,
 ) -> [i32; limits::SHAPE_NUMBERS]
     requires { ⌜ Held (now corners) (now offsets) pose place ⌝ }
-    ensures { λ r. ⌜ take (3 * pose .count) r ≡ listTo (3 * pose .count) (λ k. numberAt (now (corners .entry)) (now (offsets .entry)) pose place (k / 3) (k % 3)) ⌝ }
+    ensures { λ r. ⌜ NumbersOf (now (corners .entry)) (now (offsets .entry)) pose place r ⌝ }
 {
     let n = pose.count;
     let mut numbers = no_numbers();
@@ -139,7 +140,7 @@ fn pose_of(counts: &[u8; limits::SHAPES], poses: &[u8; limits::POSE_NUMBERS], pl
     }
 }
 
-// The placed corners of the piece at a taken place; the first three times its count are its numbers.
+// The placed corners of the piece at a taken place; the first three times its count are its numbers, and the rest is 0.
 pub fn piece_numbers(
     counts: &[u8; limits::SHAPES],
     corners: &[i32; limits::CORNER_NUMBERS],
@@ -170,7 +171,7 @@ pub fn piece_count(
 }
 
 // Its ends on an axis.
-pub fn piece_ends(
+pub(crate) fn piece_ends(
     counts: &[u8; limits::SHAPES],
     corners: &[i32; limits::CORNER_NUMBERS],
     poses: &[u8; limits::POSE_NUMBERS],

@@ -13,7 +13,8 @@ use Rattle.ranges.specs.OrderTest.{loaded-alone}
 use Rattle.state.specs.Desk.{Desk, InOrder, OffsetFits}
 use Rattle.handling.specs.Handled.{MayPut, may-handed, PutDown, put-handed, Emptied, emptied-at}
 use Rattle.numbers.specs.Parts.{Numbered, shapeRefusals, emptyRefusals, takenRefusals, placementRefusals}
-use Rattle.numbers.specs.Index.{Indexed, indexed-is, CellOf}
+use Rattle.numbers.specs.Index.{Indexed, CellOf}
+use Rattle.numbers.specs.IndexLaws.{indexed-is}
 use Rattle.numbers.specs.Asked.{Asked, asked-refused, positive, lowest-first, lowest-then, ShapeAsked, EmptyAsked, TakenAsked, PlacementAsked, placement-handed}
 use Rattle.desk.specs.Commands.{placeRefusals, Places, Removed}
 use Rattle.desk.specs.CommandLaws.{refuses, accepts}
@@ -85,10 +86,10 @@ module _ (d : Desk) (place shape turn x y z : ℤ) {a b c u v w : ℤ} (ea : a �
     i-is = indexed-is (subst (λ (j : ℤ). Indexed Limits.places j i) ea ii) (place-given .numbered)
 
     h-is : h ≡ natAbs shape
-    h-is = subst (λ (j : ℤ). CellOf Limits.shapes j h) eb ih .is (omega arith) (place-given .shaped)
+    h-is = subst (λ (j : ℤ). CellOf Limits.shapes j h) eb ih .is (place-given .shaped)
 
     t-is : t ≡ natAbs turn
-    t-is = subst (λ (j : ℤ). CellOf Limits.turns j t) ec it .is (omega arith) (place-given .turned)
+    t-is = subst (λ (j : ℤ). CellOf Limits.turns j t) ec it .is (place-given .turned)
 
     pub may-place : MayPut d i (h + 1) t u v w
     may-place = may-handed eu ev ew (record {

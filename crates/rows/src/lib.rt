@@ -96,7 +96,7 @@ pub fn wide(v: u8) -> usize
 
 // The array's length, of which its type says nothing to a contract.
 pub fn sized_rows(rows: &[u8; limits::ROWS]) -> usize
-    ensures { λ _. ⌜ length (now (rows .entry)) ≡ Limits.rows ⌝ }
+    ensures { λ r. ⌜ (r ≡ length (now (rows .entry))) × (length (now (rows .entry)) ≡ Limits.rows) ⌝ }
 {
     let all = &rows[..];
     all.len()

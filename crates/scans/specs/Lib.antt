@@ -6,3 +6,4 @@ pub mod Signs
 pub mod Lower
 pub mod Once
 pub mod TakenWhen
+pub mod Order

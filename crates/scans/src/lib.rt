@@ -128,7 +128,7 @@ pub fn scan_float(x: f32) -> Scan
 }
 
 // The lower of two refusals, where 0 says that none applies.
-pub fn lower(a: u8, b: u8) -> u8
+fn lower(a: u8, b: u8) -> u8
     ensures { λ r. ⌜ r ≡ lowerOf a b ⌝ }
 {
     if a == limits::DONE {

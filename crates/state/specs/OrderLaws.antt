@@ -10,7 +10,7 @@ use Rattle.rows.specs.Rows.{RowsInOrder}
 use Rattle.tallies.specs.Tallies.{BookInOrder}
 use Rattle.marks.specs.Marks.{Axes, InPlaceMarks}
 use Rattle.marks.specs.Keys.{KeyedMarks}
-use Rattle.marks.specs.Promises.{TestedMarks}
+use Rattle.ordering.specs.Tested.{TestedMarks}
 use Rattle.pieces.specs.Pieces.{PiecesInOrder, axesOf}
 use Rattle.state.specs.Desk.{Desk, InOrder}
 

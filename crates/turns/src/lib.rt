@@ -55,7 +55,7 @@ const TABLE: [Turn; limits::TURNS] = [
 ];
 
 // The turn of a number.
-pub fn turn_at(turn: usize) -> Turn
+fn turn_at(turn: usize) -> Turn
     requires { ⌜ turn < Limits.turns ⌝ }
     ensures { λ r. ⌜ r ≡ turnOf turn ⌝ }
 {
@@ -106,7 +106,7 @@ fn along_axis(k: i8, x: i32, y: i32, z: i32) -> i32
 }
 
 // One coordinate of a turned corner.
-pub fn turned_axis(turn: usize, axis: usize, x: i32, y: i32, z: i32) -> i32
+fn turned_axis(turn: usize, axis: usize, x: i32, y: i32, z: i32) -> i32
     requires { ⌜ Turnable turn x y z ⌝ }
     ensures { λ r. ⌜ (r ≡ turnedAt turn axis x y z) × Within Limits.shapeReach r ⌝ }
 {

@@ -45,7 +45,7 @@ loop-again c =
     let l = c .before .before .before .loop in
     let rows = c .before .before .before .before .before .args .rows .now in
     let v = getD rows (l .k) 0 in
-    let s = c .before .before .before .before .sized-rows .ensures in
+    let s = c .before .before .before .before .sized-rows .ensures .1 in
     let o = oneIf≤ (contact v) in
     let e = c .one-if-contact .ensures in (
       omega arith,
@@ -57,7 +57,7 @@ returns : tie.Need-returns Inv-loop μ-loop
 returns c =
     let l = c .before .loop in
     let rows = c .before .before .before .args .rows .now in
-    let s = c .before .before .sized-rows .ensures in
+    let s = c .before .before .sized-rows .ensures .1 in
     (ap (λ r. length (contacts r)) (sym (take-all (l .k) rows (omega arith))) ∙ l .inv .2, omega arith)
 
 pub count-contacts-spec : {M : Type 1} → statement M

@@ -36,7 +36,7 @@ write-row-requires c κs =
     let l = c .before .before .before .loop in
     let s = c .before .before .before .before in
     let rows = s .before .before .args .rows .now in
-    let fit = contacts-fit rows (l .k) (omega (arith, s .sized-rows .ensures)) in
+    let fit = contacts-fit rows (l .k) (omega (arith, s .sized-rows .ensures .1)) in
     omega (arith, l .inv .1, l .inv .3, s .before .before .pre)
 
 add-k : tie.Need-add-k Inv-loop μ-loop
@@ -53,7 +53,7 @@ loop-again c =
     let rows = s .before .before .args .rows .now in
     let room = s .before .before .args .room .now in
     let bytes = listed (l .k) (getD rows (l .k) 0) in
-    let h : l .k < length rows = omega (arith, s .sized-rows .ensures) in
+    let h : l .k < length rows = omega (arith, s .sized-rows .ensures .1) in
     let next : c .before .before .write-row .result ≡ length (contacts (take (l .k + 1) rows)) = omega (arith, w .0, l .inv .1, ap length (contacts-more rows (l .k) h), length-append (contacts (take (l .k) rows)) bytes) in (
       omega arith,
       next,
@@ -71,7 +71,7 @@ returns c =
     let s = c .before .before in
     let rows = s .before .before .args .rows .now in
     let room = s .before .before .args .room .now in
-    let all : take (l .k) rows ≡ rows = take-all (l .k) rows (omega (arith, s .sized-rows .ensures)) in
+    let all : take (l .k) rows ≡ rows = take-all (l .k) rows (omega (arith, s .sized-rows .ensures .1)) in
     l .inv .2 ∙ ap (λ (n : ℕ). contacts (take (l .k) rows) ++ drop n room) (l .inv .1) ∙ ap (λ (r : List ℕ). contacts r ++ drop (length (contacts r)) room) all
 
 pub write-contacts-spec : {M : Type 1} → statement M

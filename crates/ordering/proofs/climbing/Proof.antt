@@ -5,7 +5,7 @@ use Prim.Native.Nat.{_-_, _≤_}
 use native.Mathlib.Omega.{arith}
 use lib.ListN.{length, drop}
 use Rattle.marks.specs.Keys.{keyOf}
-use Rattle.ordering.specs.Test.{climbs}
+use Rattle.ordering.specs.Tested.{climbs}
 use Rattle.ordering.proofs.Loops.{too-low, no-key, climbs-more, climbs-done}
 use Rattle.ordering.proofs.climbing.Statement.{statement}
 use Rattle.ordering.proofs.climbing.Tie as tie

@@ -1,19 +1,19 @@
 -- The keys say how many marks there must be; that many climbing ones and nothing after them are exactly a part in place.
 use borrow.Author.Needs.{needs}
 use mathlib.Core.Path.{ap, sym, _∙_}
-use mathlib.Core.Bool.{true, false, false≢true}
 use Prim.Native.Nat.{ℕ, _-_}
 use native.Mathlib.Omega.{arith}
 use lib.ListN.{length, take, drop, length-drop}
 use lib.Seq.{take-all, length-take-le}
 use Rattle.marks.specs.Keys.{keyOf}
 use borrow.Author.Tests.{not-true, not-false}
-use Rattle.ordering.specs.Test.{climbs, blank, test-right, test-whole}
+use Rattle.ordering.specs.Tested.{climbs, blank}
+use Rattle.ordering.specs.Test.{not-long, not-climbing, then-blank}
 use Rattle.ordering.proofs.in_place.Statement.{statement}
 use Rattle.ordering.proofs.in_place.Tie as tie
 
 returns : tie.Need-returns
-returns c = record { right = λ a k e. absurd (false≢true e); whole = λ a k p. absurd (c .if1 .taken (p .long)) }
+returns c = not-long _ _ (c .if1 .taken)
 
 marks-in-requires : tie.Need-marks-in-requires
 marks-in-requires c κs = search needs
@@ -28,10 +28,9 @@ returns-2 : tie.Need-returns-2
 returns-2 c =
     let s = c .before .before .before .before .before .before .args in
     let n = c .before .before .before .marks-in in
-    record {
-      right = λ a k e. absurd (false≢true e);
-      whole = λ a k p. absurd (false≢true (sym (not-true _ (c .if2 .taken)) ∙ c .before .climbing .ensures ∙ ap (λ (z : ℕ). climbs (keyOf (s .keys .now)) 0 (take z (s .part .now))) (n .ensures .0) ∙ test-whole a (s .keys .now) k (s .part .now) p .0));
-    }
+    let long = c .before .before .before .before .if1 .left in
+    not-climbing (s .keys .now) (s .part .now) long
+    (sym (ap (λ (z : ℕ). climbs (keyOf (s .keys .now)) 0 (take z (s .part .now))) (n .ensures .0)) ∙ sym (c .before .climbing .ensures) ∙ not-true _ (c .if2 .taken))
 
 mul-is-blank : tie.Need-mul-is-blank
 mul-is-blank c = search needs
@@ -55,10 +54,7 @@ returns-3 c =
     let long = c .before .before .before .before .before .before .if1 .left in
     let climb = sym (ap (λ (z : ℕ). climbs (keyOf (s .keys .now)) 0 (take z (s .part .now))) (n .ensures .0)) ∙ sym (c .before .before .before .climbing .ensures) ∙ not-false _ (c .before .before .if2 .left) in
     let rest = c .is-blank .ensures ∙ ap blank (take-all (length (s .part .now) - n .result) (drop (n .result) (s .part .now)) (omega (arith, length-drop (n .result) (s .part .now)))) ∙ ap (λ (z : ℕ). blank (drop z (s .part .now))) (n .ensures .0) in
-    record {
-      right = λ a k e. test-right a (s .keys .now) k (s .part .now) long climb (sym rest ∙ e);
-      whole = λ a k p. rest ∙ test-whole a (s .keys .now) k (s .part .now) p .1;
-    }
+    then-blank (s .keys .now) (s .part .now) long climb rest
 
 pub in-place-spec : {M : Type 1} → statement M
 in-place-spec =

@@ -1,14 +1,12 @@
 -- The length, and then each axis by its own part.
 use borrow.Author.Needs.{needs}
-use mathlib.Core.Path.{sym, _∙_}
-use mathlib.Core.Bool.{true, false, false≢true}
 use borrow.Author.Tests.{not-true, not-false}
-use Rattle.marks.specs.Marks.{axisOf}
+use Rattle.ordering.specs.Test.{marks-not-long, x-fails, y-fails, z-decides}
 use Rattle.ordering.proofs.in_place_marks.Statement.{statement}
 use Rattle.ordering.proofs.in_place_marks.Tie as tie
 
 returns : tie.Need-returns
-returns c = record { right = λ a k e. absurd (false≢true e); whole = λ a k p. absurd (c .if1 .taken (p .long)) }
+returns c = marks-not-long _ _ _ _ (c .if1 .taken)
 
 sub-in-place : tie.Need-sub-in-place
 sub-in-place c = search needs
@@ -23,7 +21,10 @@ in-place-requires : tie.Need-in-place-requires
 in-place-requires c κs = search needs
 
 returns-2 : tie.Need-returns-2
-returns-2 c = record { right = λ a k e. absurd (false≢true e); whole = λ a k p. absurd (false≢true (sym (not-true _ (c .if2 .taken)) ∙ c .before .in-place .ensures .whole (axisOf a 0) (k .on-x) (p .on-x))) }
+returns-2 c =
+    let s1 = c .before .before .before in
+    let a = s1 .before .before .args in
+    x-fails (a .x .now) (a .y .now) (a .z .now) (a .marks .now) (s1 .if1 .left) (c .before .in-place .ensures) (not-true _ (c .if2 .taken))
 
 sub-in-place-2 : tie.Need-sub-in-place-2
 sub-in-place-2 c = search needs
@@ -38,7 +39,11 @@ in-place-requires-2 : tie.Need-in-place-requires-2
 in-place-requires-2 c κs = search needs
 
 returns-3 : tie.Need-returns-3
-returns-3 c = record { right = λ a k e. absurd (false≢true e); whole = λ a k p. absurd (false≢true (sym (not-true _ (c .if3 .taken)) ∙ c .before .in-place2 .ensures .whole (axisOf a 1) (k .on-y) (p .on-y))) }
+returns-3 c =
+    let s2 = c .before .before .before in
+    let s1 = s2 .before .before .before in
+    let a = s1 .before .before .args in
+    y-fails (a .x .now) (a .y .now) (a .z .now) (a .marks .now) (s1 .if1 .left) (s2 .before .in-place .ensures) (not-false _ (s2 .if2 .left)) (c .before .in-place2 .ensures) (not-true _ (c .if3 .taken))
 
 sub-in-place-3 : tie.Need-sub-in-place-3
 sub-in-place-3 c = search needs
@@ -57,15 +62,9 @@ returns-4 c =
     let s3 = c .before .before in
     let s2 = s3 .before .before .before in
     let s1 = s2 .before .before .before in
-    record {
-      right = λ a k e. record {
-        long = s1 .if1 .left;
-        on-x = s2 .before .in-place .ensures .right (axisOf a 0) (k .on-x) (not-false _ (s2 .if2 .left));
-        on-y = s3 .before .in-place2 .ensures .right (axisOf a 1) (k .on-y) (not-false _ (s3 .if3 .left));
-        on-z = c .in-place3 .ensures .right (axisOf a 2) (k .on-z) e;
-      };
-      whole = λ a k p. c .in-place3 .ensures .whole (axisOf a 2) (k .on-z) (p .on-z);
-    }
+    let a = s1 .before .before .args in
+    z-decides (a .x .now) (a .y .now) (a .z .now) (a .marks .now) (s1 .if1 .left)
+    (s2 .before .in-place .ensures) (not-false _ (s2 .if2 .left)) (s3 .before .in-place2 .ensures) (not-false _ (s3 .if3 .left)) (c .in-place3 .ensures)
 
 pub in-place-marks-spec : {M : Type 1} → statement M
 in-place-marks-spec =

@@ -4,7 +4,7 @@ use mathlib.Core.Path.{_≡_, refl, sym, _∙_}
 use Prim.Native.Nat.{_-_, _≤_}
 use native.Mathlib.Omega.{arith}
 use lib.ListN.{length, drop}
-use Rattle.ordering.specs.Test.{blank}
+use Rattle.ordering.specs.Tested.{blank}
 use Rattle.ordering.proofs.Loops.{not-blank, blank-more, blank-done}
 use Rattle.ordering.proofs.is_blank.Statement.{statement}
 use Rattle.ordering.proofs.is_blank.Tie as tie

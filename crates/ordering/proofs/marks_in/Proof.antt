@@ -11,7 +11,7 @@ use borrow.Author.Tests.{lt-ltb}
 use lib.Dec.{ltb}
 use Rattle.ints.specs.Counts.{oneIf, sumTo, sum-none, sum-more, oneIf≤}
 use Rattle.marks.specs.Sorted.{keyed}
-use Rattle.ordering.specs.Test.{marksIn}
+use Rattle.ordering.specs.Tested.{marksIn}
 use Rattle.ordering.proofs.marks_in.Statement.{statement}
 use Rattle.ordering.proofs.marks_in.Tie as tie
 

@@ -49,7 +49,7 @@ loop-again : tie.Need-loop-again Inv-loop μ-loop
 loop-again c =
     let l = c .before .loop in
     let s = c .before .before .before .before in
-    (omega arith, cleared-more (l .inv .1 .size ∙ c .before .before .sized-rows .ensures) (s .pre) (c .loop-test .taken) (l .inv .1))
+    (omega arith, cleared-more (l .inv .1 .size ∙ c .before .before .sized-rows .ensures .1) (s .pre) (c .loop-test .taken) (l .inv .1))
 
 returns : tie.Need-returns Inv-loop μ-loop
 returns c =

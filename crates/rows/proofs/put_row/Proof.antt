@@ -21,7 +21,7 @@ element-write-rows c = search needs
 returns : tie.Need-returns
 returns c =
     let a = c .before .before .args in
-    put (a .rows .now) (a .low) (a .high) (a .v) (c .sized-rows .ensures) (omega arith) (omega arith)
+    put (a .rows .now) (a .low) (a .high) (a .v) (c .sized-rows .ensures .1) (omega arith) (omega arith)
 
 pub put-row-spec : {M : Type 1} → statement M
 put-row-spec =

@@ -43,7 +43,7 @@ loop-again : tie.Need-loop-again Inv-loop μ-loop
 loop-again c = (omega arith, below-more _ _ (c .before .before .before .before .loop .inv .1) (unless-left (c .before .cell-in-order .ensures) (c .if1 .left)))
 
 returns-2 : tie.Need-returns-2 Inv-loop μ-loop
-returns-2 c = holds refl (every-cell (c .before .before .before .args .rows .now) (c .before .before .sized-rows .ensures) (λ i h. c .before .loop .inv .1 i (omega arith)))
+returns-2 c = holds refl (every-cell (c .before .before .before .args .rows .now) (c .before .before .sized-rows .ensures .1) (λ i h. c .before .loop .inv .1 i (omega arith)))
 
 pub rows-in-order-spec : {M : Type 1} → statement M
 rows-in-order-spec =

@@ -45,14 +45,14 @@ loop-again c =
     let l = c .before .before .before .before .loop in
     let s = c .before .before .before .before .before .before in
     let rows = s .before .args .rows .now in
-    (omega arith, rw (c .count-row .ensures) (book-more rows (l .book) (l .k) (omega (arith, s .sized-rows .ensures)) (l .inv .1)))
+    (omega arith, rw (c .count-row .ensures) (book-more rows (l .book) (l .k) (omega (arith, s .sized-rows .ensures .1)) (l .inv .1)))
 
 returns : tie.Need-returns Inv-loop μ-loop
 returns c =
     let l = c .before .loop in
     let s = c .before .before .before in
     let rows = s .before .args .rows .now in
-    subst (λ (r : List ℕ). BookInOrder r (l .book)) (take-all (l .k) rows (omega (arith, s .sized-rows .ensures))) (l .inv .1)
+    subst (λ (r : List ℕ). BookInOrder r (l .book)) (take-all (l .k) rows (omega (arith, s .sized-rows .ensures .1))) (l .inv .1)
 
 pub recount-spec : {M : Type 1} → statement M
 recount-spec =

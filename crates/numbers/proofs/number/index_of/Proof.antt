@@ -9,7 +9,8 @@ use mir.Syntax.{w32, w64}
 use mir.Val.{Fits, SFits}
 use mir.Facts.{toZ-ofZ}
 use Rattle.ints.specs.Tests.{lt-true, lt-false, tested}
-use Rattle.numbers.specs.Index.{Indexed, below-zero, from-zero}
+use Rattle.numbers.specs.Index.{Indexed}
+use Rattle.numbers.specs.IndexLaws.{below-zero, from-zero, too-great}
 use Rattle.numbers.proofs.number.index_of.Statement.{statement}
 use Rattle.numbers.proofs.number.index_of.Tie as tie
 
@@ -23,11 +24,17 @@ not-below (negsuc n) f t = absurd (false≢true (sym t))
 returns : tie.Need-returns
 returns c = below-zero _ _ (lt-true (c .if1 .taken) (search tested depth 15) tt)
 
-cast-result : tie.Need-cast-result
-cast-result c = let e = toZ-ofZ (c .before .fits .number) in subst Natural (sym e) (not-below _ (c .before .fits .number) (ap (λ z. ltZ z (pos 0)) (sym e) ∙ c .if1 .left))
+cast-i : tie.Need-cast-i
+cast-i c = let e = toZ-ofZ (c .before .fits .number) in subst Natural (sym e) (not-below _ (c .before .fits .number) (ap (λ z. ltZ z (pos 0)) (sym e) ∙ c .if1 .left))
 
 returns-2 : tie.Need-returns-2
-returns-2 c = subst (λ (y : ℤ). Indexed (c .before .args .n) (c .before .args .number) (natAbs y)) (sym (toZ-ofZ (c .before .fits .number))) (from-zero _ _ (lt-false (c .if1 .left) (search tested depth 15) tt))
+returns-2 c =
+    let e = toZ-ofZ (c .before .before .fits .number) in
+    let k = c .before .before .args in
+    subst (λ (y : ℤ). Indexed (k .n) (k .number) (natAbs y)) (sym e) (from-zero _ _ (lt-false (c .before .if1 .left) (search tested depth 15) tt) (omega (arith, ap natAbs e, c .if2 .taken)))
+
+returns-3 : tie.Need-returns-3
+returns-3 c = too-great _ _ (omega (arith, ap natAbs (toZ-ofZ (c .before .before .fits .number)), c .if2 .left))
 
 pub index-of-spec : {M : Type 1} → statement M
-index-of-spec = tie.close (tie.spec returns cast-result returns-2)
+index-of-spec = tie.close (tie.spec returns cast-i returns-2 returns-3)

@@ -1,9 +1,7 @@
 -- `pieces::placed::piece_numbers`: the numbers by the pose are those of the store.
-use mathlib.Core.Path.{_≡_, sym, subst}
-use Prim.Native.Nat.{_*_, _/_, _%_}
-use lib.ListN.{take}
-use Rattle.pieces.specs.Pieces.{storeOf, listTo}
-use Rattle.pieces.specs.Placed.{Held, numberAt}
+use mathlib.Core.Path.{sym, subst}
+use Rattle.pieces.specs.Pieces.{storeOf}
+use Rattle.pieces.specs.Placed.{Held, NumbersOf}
 use Rattle.pieces.specs.Store.{asked, held}
 use Rattle.pieces.specs.Boxes.{numbers-of}
 use Rattle.pieces.proofs.placed.piece_numbers.Statement.{statement}
@@ -21,7 +19,7 @@ returns : tie.Need-returns
 returns c =
     let a = c .before .before .args in
     numbers-of (storeOf (a .counts .now) (a .corners .now) (a .poses .now) (a .offsets .now)) (a .place) _
-    (subst (λ p. take (3 * p .count) (c .numbers-of .result) ≡ listTo (3 * p .count) (λ k. numberAt (a .corners .now) (a .offsets .now) p (a .place) (k / 3) (k % 3))) (c .before .pose-of .ensures) (c .numbers-of .ensures))
+    (subst (λ p. NumbersOf (a .corners .now) (a .offsets .now) p (a .place) (c .numbers-of .result)) (c .before .pose-of .ensures) (c .numbers-of .ensures))
 
 pub piece-numbers-spec : {M : Type 1} → statement M
 piece-numbers-spec = tie.close (tie.spec pose-of-requires numbers-of-requires returns)

@@ -1,0 +1,44 @@
+-- Why `Lowest` is the lowest number that applies: of a list whose numbers rise it is no greater than any that applies, and not 0 where one does.
+-- And "only where it applies": of any list, a number that is not 0 is that of a refusal which applies.
+use mathlib.Core.Path.{_≡_}
+use mathlib.Core.List.{List, [], _∷_}
+use mathlib.Core.Logic.{inl, inr}
+use mathlib.Core.Bool.{Bool, true, false, _&&_}
+use Prim.Native.Nat.{ℕ, _≤_, _<_}
+use native.Mathlib.Omega.{arith}
+use lib.Dec.{T, ltb, ltb→lt}
+use Rattle.limits.specs.Lowest.{Refusal, Lowest, risesAbove, Rising, Applies}
+
+both : (a b : Bool) → T (a && b) → T a × T b
+both true b t = (tt, t)
+both false b t = absurd t
+
+-- what applies in a list that rises above k is above k
+above : (k : ℕ) (l : List Refusal) {n : ℕ} → T (risesAbove k l) → Applies l n → k < n
+above k [] t a = absurd a
+above k (r ∷ rest) t (inl h) = omega (arith, ltb→lt k (r .number) (both (ltb k (r .number)) _ t .0), h .1)
+above k (r ∷ rest) t (inr a) =
+    let s = both (ltb k (r .number)) _ t in
+    omega (arith, ltb→lt k (r .number) (s .0), above (r .number) rest (s .1) a)
+
+least : (k : ℕ) (l : List Refusal) {m n : ℕ} → T (risesAbove k l) → Lowest l m → Applies l n → (k < m) × (m ≤ n)
+least k [] t h a = absurd a
+least k (r ∷ rest) t (inl h) (inl a) = let s = both (ltb k (r .number)) _ t in (omega (arith, ltb→lt k (r .number) (s .0), h .1), omega (arith, h .1, a .1))
+least k (r ∷ rest) t (inl h) (inr a) =
+    let s = both (ltb k (r .number)) _ t in
+    (omega (arith, ltb→lt k (r .number) (s .0), h .1), omega (arith, h .1, above (r .number) rest (s .1) a))
+least k (r ∷ rest) t (inr h) (inl a) = absurd (h .0 (a .0))
+least k (r ∷ rest) t (inr h) (inr a) =
+    let s = both (ltb k (r .number)) _ t in
+    let g = least (r .number) rest (s .1) (h .1) a in
+    (omega (arith, ltb→lt k (r .number) (s .0), g .0), g .1)
+
+-- where a number of a rising list applies, the lowest is not 0, and no greater than that number
+pub lowest-least : (l : List Refusal) {m n : ℕ} → Rising l → Lowest l m → Applies l n → (0 < m) × (m ≤ n)
+lowest-least l t h a = least 0 l t h a
+
+-- "and only where it applies"
+pub lowest-applies : (l : List Refusal) {n : ℕ} → Lowest l n → 0 < n → Applies l n
+lowest-applies [] h z = absurd (omega arith)
+lowest-applies (r ∷ rest) (inl h) z = inl h
+lowest-applies (r ∷ rest) (inr h) z = inr (lowest-applies rest (h .1) z)
