@@ -104,16 +104,16 @@ module _ {d : Store} {p : ℕ} {shape : List ℤ} {x y z : ℕ} (h : Holds d p s
       ∙ ap (λ n. greatestTo n (λ i. getD (placed shape x y z) (3 * i + axis) (pos 0))) count-is
 
 -- ---- the row of two places
-abbrev pub isApart : List ℤ → List ℤ → Bool
-isApart A B = ltZ (highOf A 0) (lowOf B 0)
+abbrev pub isApart : ℕ → List ℤ → List ℤ → Bool
+isApart axis A B = ltZ (highOf A axis) (lowOf B axis)
 
 abbrev pub isMixed : List ℤ → List ℤ → Bool
 isMixed A B = below (λ axis. leZ (lowOf B axis) (highOf A axis) && leZ (lowOf A axis) (highOf B axis)) 3
 
 module _ {d : Store} {p q : ℕ} {first second : List ℤ} {x y z u v w : ℕ} (h : Holds d p first x y z) (k : Holds d q second u v w) where
-  -- the first is on the low side of the second
-  pub apart-row : T (isApart (placed first x y z) (placed second u v w)) → RowRight d p q 0
-  apart-row t = row-apart d p q (0, omega arith, inl (subst (λ a. a <ℤ lowAt d 0 q) (sym (high-is h 0 (omega arith))) (subst (λ b. highOf (placed first x y z) 0 <ℤ b) (sym (low-is k 0 (omega arith))) (ltZ-yes t))))
+  -- the first is on the low side of the second along this axis
+  pub apart-row : (axis : ℕ) → axis < 3 → T (isApart axis (placed first x y z) (placed second u v w)) → RowRight d p q 0
+  apart-row axis l t = row-apart d p q (axis, l, inl (subst (λ a. a <ℤ lowAt d axis q) (sym (high-is h axis l)) (subst (λ b. highOf (placed first x y z) axis <ℤ b) (sym (low-is k axis l)) (ltZ-yes t))))
 
   pub not-apart : T (isMixed (placed first x y z) (placed second u v w)) → Apart d p q → ⊥
   not-apart t (axis, l, a) =

@@ -2,9 +2,11 @@ pub mod Judging
 pub mod Table
 pub mod Lists
 pub mod Holding
-pub mod Counting
 pub mod Standing
 pub mod Two
 pub mod Three
 pub mod Moving
+pub mod Exhibited
+pub mod Putting
+pub mod Exhibiting
 pub mod Starred

@@ -51,6 +51,10 @@ pub segments : VerdictIs (placed alongX 0 0 0) (placed alongY 0 0 0) touching
 unfolding cornerAt weighted
 segments = touching-by (vec (pos 0) (pos 0) (pos 1)) (pair 0 0 1 ∷ pair 1 1 1 ∷ []) tt
 
+pub segments-raised : VerdictIs (placed alongX 0 0 0) (placed alongY 0 0 1) separate
+unfolding cornerAt
+segments-raised = separate-by (vec (pos 0) (pos 0) (pos 1)) tt
+
 -- ---- the other pairs of the three boxes
 pub boxes-0-32 : VerdictIs (placed B 0 0 0) (placed B 32 0 0) penetrating
 unfolding cornerAt weighted

@@ -1,24 +1,24 @@
 -- The move of the table: what place 2 and the others hold after it, and its count.
 -- The ends of three boxes are those of `marks` Bench, where the count is computed.
-use mathlib.Core.Path.{_≡_, refl, sym, ap₂, _∙_}
+use mathlib.Core.Path.{_≡_, refl, sym, _∙_}
 use mathlib.Core.List.{[], _∷_}
 use mathlib.Core.Bool.{true, cond}
-use Prim.Native.Nat.{ℕ, zero, suc, _+_, _<_}
+use Prim.Native.Nat.{ℕ, zero, suc, _<_}
 use native.Mathlib.Omega.{arith}
 use borrow.Author.Tests.{ltb-true, le-ltb}
 use lib.Dec.{eqb, ltb}
 use lib.ListN.{getD}
 use lib.IntN.{pos, _+ℤ_}
 use Rattle.limits.specs.Limits
-use Rattle.marks.specs.Marks.{axisOf, changed, changedMarks, Agree}
-use Rattle.marks.specs.Bench.{boxes, before, after, count-is}
+use Rattle.marks.specs.Marks.{axisOf, changedMarks, Agree}
+use Rattle.marks.specs.Bench.{boxes, count-is}
 use Rattle.rows.specs.Cells.{by-same}
 use Rattle.pieces.specs.Pieces.{Store, Sized, takenAt, axesOf, lowAt, highAt, leastTo, greatestTo}
 use Rattle.pieces.specs.Store.{SameAt, taken-is, empty-is}
 use Rattle.handling.specs.PutLaws.{put-same}
 use Rattle.bench.specs.Table.{B, placed, HoldsThree, moved}
 use Rattle.bench.specs.Holding.{lowOf, highOf, low-is, high-is}
-use Rattle.bench.specs.Counting.{changed-same}
+use Rattle.runs.specs.CountLaws.{count-same}
 use Rattle.bench.specs.Standing.{holds-same, put-holds}
 
 -- ---- what the places hold after the move
@@ -27,13 +27,13 @@ module _ (d : Store) (size : Sized d) (t : HoldsThree d 0 64 32) where
   shape = getD (d .poses) 4 0
 
   other : (q : ℕ) → (q ≡ 2 → ⊥) → SameAt d (moved d) q
-  other q f = put-same d 2 shape 0 (pos 128) (pos 0) (pos 0) q f
+  other q f = put-same d 2 shape 0 _ (pos 0) (pos 0) q f
 
   pub move-holds : HoldsThree (moved d) 0 64 128
   move-holds = record {
     place-0 = holds-same (other 0 (λ k. omega arith)) (t .place-0);
     place-1 = holds-same (other 1 (λ k. omega arith)) (t .place-1);
-    place-2 = put-holds size (omega arith) (t .place-2 .taken .holds) (record { count = t .place-2 .count; corners = t .place-2 .corners });
+    place-2 = put-holds size (omega arith) (t .place-2 .taken .holds) (record { count = t .place-2 .count; each = t .place-2 .corners });
     others = λ p k. by-same p 2 (λ e. omega arith) (λ f. t .others p (record { place = k .place; holds = λ n. k .holds (sym (other p f .shape) ∙ n) }));
   }
 
@@ -93,10 +93,6 @@ unfolding leastTo greatestTo
 ends-128 axis l = by-axis (EndsOn 128) axis l (refl, refl) (refl, refl) (refl, refl)
 
 pub move-count : (d : Store) → Sized d → HoldsThree d 0 64 32 → changedMarks (axesOf d) (axesOf (moved d)) 2 ≡ 3
-move-count d size t = ap₂ _+_ (ap₂ _+_ (on 0 (omega arith)) (on 1 (omega arith))) (on 2 (omega arith)) ∙ count-is
-  where
-    u : HoldsThree (moved d) 0 64 128
-    u = move-holds d size t
-
-    on : (axis : ℕ) → axis < 3 → changed (axisOf (axesOf d) axis) (axisOf (axesOf (moved d)) axis) 2 ≡ changed (axisOf before axis) (axisOf after axis) 2
-    on axis l = changed-same 2 (omega arith) (agree t ends-0 ends-64 ends-32 axis l) (agree u ends-0 ends-64 ends-128 axis l) (λ p h. taken-three t p h ∙ sym (taken-three u p h)) (taken-three t 2 (omega arith))
+move-count d size t =
+    let u = move-holds d size t in
+    count-same 2 (omega arith) (agree t ends-0 ends-64 ends-32) (agree u ends-0 ends-64 ends-128) (λ p h. taken-three t p h ∙ sym (taken-three u p h)) (taken-three t 2 (omega arith)) ∙ count-is

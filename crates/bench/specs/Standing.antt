@@ -1,6 +1,6 @@
--- What putting a piece makes a place hold; and stores that hold two pieces, or three boxes, so that the table speaks of desks that there are.
+-- What putting a piece makes a place hold; and stores that hold two pieces, so that the table speaks of desks that there are.
 -- The arrays have the lengths of a desk's.
-use mathlib.Core.Path.{_≡_, refl, sym, ap, _∙_}
+use mathlib.Core.Path.{_≡_, sym, ap, _∙_}
 use mathlib.Core.List.{List, _∷_, _++_}
 use Prim.Native.Nat.{ℕ, suc, _+_, _-_, _*_, _<_, _≤_}
 use native.Mathlib.Omega.{arith}
@@ -9,20 +9,14 @@ use lib.Seq.{getD-append-add}
 use lib.IntN.{ℤ, pos}
 use Rattle.limits.specs.Limits
 use Rattle.space.specs.Lists.{LengthFits}
-use Rattle.rows.specs.Cells.{by-same}
-use Rattle.tallies.specs.Counting.{zero-at}
-use Rattle.pieces.specs.Pieces.{Store, Sized, cornersOf, shapeNumber}
+use Rattle.pieces.specs.Pieces.{Store, Sized}
 use Rattle.pieces.specs.Store.{SameAt}
 use Rattle.state.specs.Desk.{putAt}
 use Rattle.handling.specs.PutLaws.{put-same, put-shape, put-turn, put-x, put-y, put-z, put-taken}
-use Rattle.bench.specs.Table.{B, Holds, HoldsThree}
+use Rattle.runs.specs.Reached.{ShapeIs}
+use Rattle.bench.specs.Table.{Holds}
 
 -- ---- what a place holds
--- shape number s is loaded with these corners
-pub record Keeps (d : Store) (s : ℕ) (shape : List ℤ) : Type 0 where
-  pub count : 3 * cornersOf d s ≡ length shape
-  pub corners : (k : ℕ) → k < length shape → shapeNumber d s k ≡ getD shape k (pos 0)
-
 pub holds-same : {d e : Store} {p : ℕ} {shape : List ℤ} {x y z : ℕ} → SameAt d e p → Holds d p shape x y z → Holds e p shape x y z
 holds-same {d} {e} {p} s h = record {
   taken = record { place = h .taken .place; holds = λ k. h .taken .holds (s .shape ∙ k) };
@@ -35,13 +29,13 @@ holds-same {d} {e} {p} s h = record {
 }
 
 -- a place's shape is written as its number plus one
-pub put-holds : {d : Store} {p n : ℕ} {shape : List ℤ} {x y z : ℕ} → Sized d → p < Limits.places → (n ≡ 0 → ⊥) → Keeps d (n - 1) shape → Holds (putAt d p n 0 (pos x) (pos y) (pos z)) p shape x y z
+pub put-holds : {d : Store} {p n : ℕ} {shape : List ℤ} {x y z : ℕ} → Sized d → p < Limits.places → (n ≡ 0 → ⊥) → ShapeIs d (n - 1) shape → Holds (putAt d p n 0 (pos x) (pos y) (pos z)) p shape x y z
 put-holds {d} {p} {n} {x} {y} {z} size l f c =
     let e = put-shape d p n 0 (pos x) (pos y) (pos z) size l in
     record {
       taken = put-taken d p n 0 (pos x) (pos y) (pos z) size l f;
       count = ap (λ s. 3 * getD (d .counts) (s - 1) 0) e ∙ c .count;
-      corners = λ k h. ap (λ s. getD (d .corners) ((s - 1) * Limits.shapeNumbers + k) (pos 0)) e ∙ c .corners k h;
+      corners = λ k h. ap (λ s. getD (d .corners) ((s - 1) * Limits.shapeNumbers + k) (pos 0)) e ∙ c .each k h;
       turn = put-turn d p n 0 (pos x) (pos y) (pos z) size l;
       offset-x = put-x d p n 0 (pos x) (pos y) (pos z) size l;
       offset-y = put-y d p n 0 (pos x) (pos y) (pos z) size l;
@@ -91,10 +85,10 @@ module _ (first second : List ℤ) (f : LengthFits (length first)) (g : LengthFi
   abbrev rest : List ℤ
   rest = filled second (Limits.cornerNumbers - Limits.shapeNumbers)
 
-  keeps-first : Keeps shapes 0 first
+  keeps-first : ShapeIs shapes 0 first
   keeps-first = record {
     count = sym (f .is);
-    corners = λ k l.
+    each = λ k l.
         let e : 0 * Limits.shapeNumbers + k ≡ k = omega arith in
         let h : k < length (filled first Limits.shapeNumbers) = omega (arith, length-append first (replicate (Limits.shapeNumbers - length first) (pos 0))) in
         ap (λ j. getD (filled first Limits.shapeNumbers ++ rest) j (pos 0)) e
@@ -102,10 +96,10 @@ module _ (first second : List ℤ) (f : LengthFits (length first)) (g : LengthFi
         ∙ List·getD-append first (replicate (Limits.shapeNumbers - length first) (pos 0)) (pos 0) k l;
   }
 
-  keeps-second : Keeps shapes 1 second
+  keeps-second : ShapeIs shapes 1 second
   keeps-second = record {
     count = sym (g .is);
-    corners = λ k l.
+    each = λ k l.
         let a = filled-length first Limits.shapeNumbers (few .0) in
         let e : 1 * Limits.shapeNumbers + k ≡ length (filled first Limits.shapeNumbers) + k = omega arith in
         ap (λ j. getD (filled first Limits.shapeNumbers ++ rest) j (pos 0)) e
@@ -121,33 +115,5 @@ module _ (first second : List ℤ) (f : LengthFits (length first)) (g : LengthFi
         putAt one 1 2 0 (pos x) (pos y) (pos z),
         put-sized 1 2 0 (pos x) (pos y) (pos z) size,
         holds-same (put-same one 1 2 0 (pos x) (pos y) (pos z) 0 (λ e. omega arith)) (put-holds loaded-sized (omega arith) (λ e. omega arith) keeps-first),
-        put-holds size (omega arith) (λ e. omega arith) (record { count = keeps-second .count; corners = keeps-second .corners }),
+        put-holds size (omega arith) (λ e. omega arith) (record { count = keeps-second .count; each = keeps-second .each }),
       )
-
--- ---- three boxes, one shape for all of them
-box-fits : LengthFits (length B)
-box-fits = record { count = 8; least = omega arith; most = omega arith; is = refl }
-
-pub three-stand : (x0 x1 x2 : ℕ) → (d : Store) × Sized d × HoldsThree d x0 x1 x2
-three-stand x0 x1 x2 =
-    let none = shapes B B box-fits box-fits in
-    let size-0 = loaded-sized B B box-fits box-fits in
-    let one = putAt none 0 1 0 (pos x0) (pos 0) (pos 0) in
-    let two = putAt one 1 1 0 (pos x1) (pos 0) (pos 0) in
-    let size-1 : Sized one = put-sized 0 1 0 (pos x0) (pos 0) (pos 0) size-0 in
-    let size-2 : Sized two = put-sized 1 1 0 (pos x1) (pos 0) (pos 0) size-1 in
-    let kept = keeps-first B B box-fits box-fits in
-    let to-1 = put-same none 0 1 0 (pos x0) (pos 0) (pos 0) in
-    let to-2 = put-same one 1 1 0 (pos x1) (pos 0) (pos 0) in
-    let to-3 = put-same two 2 1 0 (pos x2) (pos 0) (pos 0) in (
-      putAt two 2 1 0 (pos x2) (pos 0) (pos 0),
-      put-sized 2 1 0 (pos x2) (pos 0) (pos 0) size-2,
-      record {
-        place-0 = holds-same (to-3 0 (λ e. omega arith)) (holds-same (to-2 0 (λ e. omega arith)) (put-holds size-0 (omega arith) (λ e. omega arith) kept));
-        place-1 = holds-same (to-3 1 (λ e. omega arith)) (put-holds size-1 (omega arith) (λ e. omega arith) (record { count = kept .count; corners = kept .corners }));
-        place-2 = put-holds size-2 (omega arith) (λ e. omega arith) (record { count = kept .count; corners = kept .corners });
-        others = λ p t.
-            by-same p 2 (λ e. omega arith) (λ f2. by-same p 1 (λ e. omega arith) (λ f1. by-same p 0 (λ e. omega arith)
-            (λ f0. absurd (t .holds (sym (to-3 p f2 .shape) ∙ sym (to-2 p f1 .shape) ∙ sym (to-1 p f0 .shape) ∙ zero-at Limits.poseNumbers (2 * p))))));
-      },
-    )

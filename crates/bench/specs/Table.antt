@@ -104,8 +104,9 @@ pub record Starred : Type 0 where
   pub corner-by : Below (record { x = pos 1; y = pos 1; z = pos 1 }) (placed T 0 0 0) (placed P 22 21 22)
   -- "P on P: touching."
   pub points : Between P P 0 0 0 touching touching
-  -- "Segments (±10,0,0) and (0,±10,0): touching"
+  -- "Segments (±10,0,0) and (0,±10,0): touching; the second raised to z = 1: separate." Raised, its box is apart along z
   pub segments : Between alongX alongY 0 0 0 touching touching
+  pub segments-raised : Between alongX alongY 0 0 1 separate 0
   -- "Places 0, 1, 2 hold B at x = 0, 64, 32. The whole listing is 0 1 2, 0 2 3, 1 2 3 (nine bytes)."
   pub listing : (d : Store) (rows : List ℕ) → HoldsThree d 0 64 32 → RightRows d rows → contacts rows ≡ 0 ∷ 1 ∷ 2 ∷ 0 ∷ 2 ∷ 3 ∷ 1 ∷ 2 ∷ 3 ∷ []
   -- "Move place 2 to x = 128: count 3, listing 0 1 2, 1 2 2."

@@ -1,6 +1,6 @@
--- Three boxes in a row: the rows of a desk that holds them, its listing, and the count of the move.
+-- Three boxes in a row: the rows of a desk that holds them, and its listing, before the move and after it.
 -- Rows that are right are one list (`rows-are`), and the listing of that list is computed.
-use mathlib.Core.Path.{_≡_, refl, sym, ap, _∙_, subst}
+use mathlib.Core.Path.{_≡_, refl, sym, ap, _∙_}
 use mathlib.Core.List.{List, [], _∷_}
 use Prim.Native.Nat.{ℕ, zero, suc, _<_}
 use native.Mathlib.Omega.{arith}
@@ -12,7 +12,7 @@ use Rattle.rows.specs.Changes.{rows-once, row-same, row-other}
 use Rattle.rows.specs.Handling.{by-pair}
 use Rattle.pieces.specs.Pieces.{Store, leastTo, greatestTo}
 use Rattle.pairs.specs.Right.{RowRight}
-use Rattle.pairs.specs.RowLaws.{right-once, right-verdict}
+use Rattle.pairs.specs.RowLaws.{right-once}
 use Rattle.bench.specs.Table.{HoldsThree, RightRows}
 use Rattle.bench.specs.Holding.{apart-row, verdict-row}
 use Rattle.bench.specs.Lists as lists
@@ -79,10 +79,10 @@ three-pairs {d} t low high l k =
     (record { rising = omega arith; first = t .place-1 .taken; second = t .place-2 .taken })
 
 -- the verdicts of the three pairs
-record Right (d : Store) (a b c : ℕ) : Type 0 where
-  first : RowRight d 0 1 a
-  second : RowRight d 0 2 b
-  third : RowRight d 1 2 c
+pub record Right (d : Store) (a b c : ℕ) : Type 0 where
+  pub first : RowRight d 0 1 a
+  pub second : RowRight d 0 2 b
+  pub third : RowRight d 1 2 c
 
 module _ {d : Store} {rows : List ℕ} {x0 x1 x2 : ℕ} (t : HoldsThree d x0 x1 x2) (r : RightRows d rows) where
   rows-are : {a b c : ℕ} → Right d a b c → rows ≡ threeRows a b c
@@ -103,22 +103,6 @@ module _ {d : Store} {rows : List ℕ} {x0 x1 x2 : ℕ} (t : HoldsThree d x0 x1 
           r .order .others low high hl hh f
           ∙ sym (row-none a b c low high hl hh (λ l k. f (three-pairs t low high l k)))
 
--- such rows there are
-rows-right : {d : Store} {x0 x1 x2 a b c : ℕ} → HoldsThree d x0 x1 x2 → Right d a b c → RightRows d (threeRows a b c)
-rows-right {d} {a} {b} {c} t k = record {
-  order = record {
-    size = size-3 a b c;
-    pairs = λ low high p. right-verdict d low high _ (right low high p);
-    others = λ low high hl hh f. row-none a b c low high hl hh (λ l h. f (three-pairs t low high l h));
-  };
-  right = right;
-}
-  where
-    right : (low high : ℕ) → PairOf (d .poses) low high → RowRight d low high (rowAt (threeRows a b c) low high)
-    right low high p =
-        by-three (λ i j. RowRight d i j (rowAt (threeRows a b c) i j)) low high (p .rising) (t .others high (p .second))
-        (subst (RowRight d 0 1) (sym (row-0-1 a b c)) (k .first)) (subst (RowRight d 0 2) (sym (row-0-2 a b c)) (k .second)) (subst (RowRight d 1 2) (sym (row-1-2 a b c)) (k .third))
-
 -- ---- the listings, computed
 listed-before : contacts (threeRows 2 3 3) ≡ 0 ∷ 1 ∷ 2 ∷ 0 ∷ 2 ∷ 3 ∷ 1 ∷ 2 ∷ 3 ∷ []
 unfolding contactsFrom listed
@@ -129,7 +113,7 @@ unfolding contactsFrom listed
 listed-after = refl
 
 -- ---- at x = 0, 64, 32, and after the move
-right-before : {d : Store} → HoldsThree d 0 64 32 → Right d 2 3 3
+pub right-before : {d : Store} → HoldsThree d 0 64 32 → Right d 2 3 3
 unfolding leastTo greatestTo
 right-before t = record {
   first = verdict-row (t .place-0) (t .place-1) tt lists.boxes-64;
@@ -137,11 +121,11 @@ right-before t = record {
   third = verdict-row (t .place-1) (t .place-2) tt lists.boxes-64-32;
 }
 
-right-after : {d : Store} → HoldsThree d 0 64 128 → Right d 2 0 2
+pub right-after : {d : Store} → HoldsThree d 0 64 128 → Right d 2 0 2
 unfolding leastTo greatestTo
 right-after t = record {
   first = verdict-row (t .place-0) (t .place-1) tt lists.boxes-64;
-  second = apart-row (t .place-0) (t .place-2) tt;
+  second = apart-row (t .place-0) (t .place-2) 0 (omega arith) tt;
   third = verdict-row (t .place-1) (t .place-2) tt lists.boxes-64-128;
 }
 
@@ -150,9 +134,3 @@ listing d rows t r = ap contacts (rows-are t r (right-before t)) ∙ listed-befo
 
 pub move-listing : (d : Store) (rows : List ℕ) → HoldsThree d 0 64 128 → RightRows d rows → contacts rows ≡ 0 ∷ 1 ∷ 2 ∷ 1 ∷ 2 ∷ 2 ∷ []
 move-listing d rows t r = ap contacts (rows-are t r (right-after t)) ∙ listed-after
-
-pub rows-before : {d : Store} → HoldsThree d 0 64 32 → (rows : List ℕ) × RightRows d rows
-rows-before t = (threeRows 2 3 3, rows-right t (right-before t))
-
-pub rows-after : {d : Store} → HoldsThree d 0 64 128 → (rows : List ℕ) × RightRows d rows
-rows-after t = (threeRows 2 0 2, rows-right t (right-after t))

@@ -4,7 +4,7 @@ use mathlib.Core.Path.{_≡_, sym, subst}
 use mathlib.Core.List.{List}
 use mathlib.Core.Bool.{Bool, _&&_}
 use mathlib.Core.Logic.{inl, inr}
-use Prim.Native.Nat.{ℕ, _*_, _/_}
+use Prim.Native.Nat.{ℕ, _*_, _/_, _<_}
 use lib.Dec.{T, eqb, leb, eqb→eq, leb→le}
 use lib.IntN.{ℤ, pos, natAbs}
 use lib.ListN.{length, getD}
@@ -34,14 +34,14 @@ fits-by s t =
       is = eqb→eq (length s) (3 * (length s / 3)) (and-right (leb 1 (length s / 3) && leb (length s / 3) Limits.corners) _ t);
     }
 
-abbrev isNear : List ℤ → Bool
-isNear s = below (λ k. leb (natAbs (getD s k (pos 0))) Limits.placedReach) (length s)
+abbrev pub isNear : ℕ → List ℤ → Bool
+isNear reach s = below (λ k. leb (natAbs (getD s k (pos 0))) reach) (length s)
 
-near-by : (s : List ℤ) → T (isNear s) → InReach Limits.placedReach s
-near-by s t = record { all = λ k l. record { abs = leb→le _ Limits.placedReach (number (λ k. leb (natAbs (getD s k (pos 0))) Limits.placedReach) (length s) t k l) } }
+pub near-by : (reach : ℕ) (s : List ℤ) → T (isNear reach s) → InReach reach s
+near-by reach s t = record { all = λ k l. record { abs = leb→le _ reach (number (λ k. leb (natAbs (getD s k (pos 0))) reach) (length s) t k l) } }
 
-placed-by : (shape : List ℤ) (x y z : ℕ) → LengthFits (length shape) → T (isNear (placed shape x y z)) → Placed (placed shape x y z)
-placed-by shape x y z f t = record { fits = subst LengthFits (sym (placed-length (f .count) shape x y z (sym (f .is)))) f; near = near-by (placed shape x y z) t }
+placed-by : (shape : List ℤ) (x y z : ℕ) → LengthFits (length shape) → T (isNear Limits.placedReach (placed shape x y z)) → Placed (placed shape x y z)
+placed-by shape x y z f t = record { fits = subst LengthFits (sym (placed-length (f .count) shape x y z (sym (f .is)))) f; near = near-by Limits.placedReach (placed shape x y z) t }
 
 -- the pair question on two such lists is not refused, and its verdict is the right one
 answered : {A B : List ℤ} {v : ℕ} → Placed A → Placed B → VerdictIs A B v → (r : Answer) → Answers A B r → (r .number ≡ 0) × (r .verdict ≡ v)
@@ -56,7 +56,7 @@ answered {A} {B} {v} a b right r h = go (h .refusal)
 
 -- ---- two pieces, the first at 0
 abbrev pub isCase : List ℤ → List ℤ → ℕ → ℕ → ℕ → Bool
-isCase first second x y z = (isShape first && isShape second) && (isNear (placed first 0 0 0) && isNear (placed second x y z))
+isCase first second x y z = (isShape first && isShape second) && (isNear Limits.placedReach (placed first 0 0 0) && isNear Limits.placedReach (placed second x y z))
 
 pub record Case (first second : List ℤ) (x y z v : ℕ) : Type 0 where
   pub test : T (isCase first second x y z)
@@ -72,13 +72,14 @@ module _ {first second : List ℤ} {x y z v : ℕ} (c : Case first second x y z 
   answers =
       let t = and-right (isShape first && isShape second) _ (c .test) in
       answered
-      (placed-by first 0 0 0 (shapes .0) (and-left (isNear (placed first 0 0 0)) _ t))
-      (placed-by second x y z (shapes .1) (and-right (isNear (placed first 0 0 0)) _ t))
+      (placed-by first 0 0 0 (shapes .0) (and-left (isNear Limits.placedReach (placed first 0 0 0)) _ t))
+      (placed-by second x y z (shapes .1) (and-right (isNear Limits.placedReach (placed first 0 0 0)) _ t))
       (c .right)
 
   -- boxes that are not apart: the row is the verdict
   pub mixed : T (isMixed (placed first 0 0 0) (placed second x y z)) → Between first second x y z v v
   mixed t = record { lists = c .right; answers = answers; desks = λ d p q h k. verdict-row h k t (c .right); there-is = two-stand first second (shapes .0) (shapes .1) x y z }
 
-  pub apart : T (isApart (placed first 0 0 0) (placed second x y z)) → Between first second x y z v 0
-  apart t = record { lists = c .right; answers = answers; desks = λ d p q h k. apart-row h k t; there-is = two-stand first second (shapes .0) (shapes .1) x y z }
+  -- boxes that are apart along an axis: the row is 0
+  pub apart : (axis : ℕ) → axis < 3 → T (isApart axis (placed first 0 0 0) (placed second x y z)) → Between first second x y z v 0
+  apart axis l t = record { lists = c .right; answers = answers; desks = λ d p q h k. apart-row h k axis l t; there-is = two-stand first second (shapes .0) (shapes .1) x y z }

@@ -1,4 +1,6 @@
 pub mod Afresh
+pub mod Count
+pub mod CountLaws
 pub mod Encoded
 pub mod Log
 pub mod PieceLaws

@@ -52,7 +52,7 @@ pub few-of : (n : ℕ) → ((LengthFits n → ⊥) → ⊥) → n ≤ Limits.sha
 few-of n f = by-less Limits.shapeNumbers n (λ h. absurd (f (λ k. omega (arith, k .is, k .most)))) (λ h. h)
 
 -- ---- one entry of a plan
-at-each : {A : Type 0} (P : ℕ → A → Type 0) (f : ℕ → A) (n : ℕ) (v : A) → P n v → ((k : ℕ) → (k ≡ n → ⊥) → P k (f k)) → (k : ℕ) → P k (with-at f n v k)
+pub at-each : {A : Type 0} (P : ℕ → A → Type 0) (f : ℕ → A) (n : ℕ) (v : A) → P n v → ((k : ℕ) → (k ≡ n → ⊥) → P k (f k)) → (k : ℕ) → P k (with-at f n v k)
 at-each P f n v here there k =
     by-same k n
     (λ e. subst (λ b. P k (cond b v (f k))) (sym (eq-eqb k n e)) (subst (λ m. P m v) (sym e) here))

@@ -25,9 +25,11 @@ use Rattle.desk.specs.declared.Outcome.{Outcome}
 use Rattle.desk.specs.declared.Outcome.the-variants.{Done, Refused}
 use Rattle.runs.specs.Log.{Command, start, load, place, move, remove, Spot, free, held, Plan, nothing, with-at, turned, planAfter, planOf}
 use Rattle.runs.specs.Afresh.{cornersIn, pieceOf, lowOf, highOf, RowOf, Held, PairIn, Afresh, afresh-once}
+use Rattle.runs.specs.Count.{isHeld, axesIn, reported}
+use Rattle.runs.specs.CountLaws.{count-same}
 use Rattle.runs.specs.PieceLaws.{piece-is, low-is, high-is, row-is}
 use Rattle.runs.specs.Reached.{Does, logged, Reached, started, told, PlaceIs, Holds}
-use Rattle.runs.specs.Standing.{Standing, None, none-applies, below-of, whole-of, few-of, fresh-standing, load-standing, put-standing, empty-standing}
+use Rattle.runs.specs.Standing.{at-each, Standing, None, none-applies, below-of, whole-of, few-of, fresh-standing, load-standing, put-standing, empty-standing}
 
 -- ---- every command keeps what stands
 -- refused: the desk and the log are as they were. Accepted: the command's own law
@@ -120,6 +122,21 @@ module _ {d : Desk} {plan : Plan} (s : Standing d plan) where
     others = λ low high h k f. s .order .rows .others low high h k (λ q. f (pair-in low high q));
   }
 
+  -- the desk's marks are those of the plan: the same places are taken, and they have the same ends
+  spot-is : (p : ℕ) (spot : Spot) → p < Limits.places → PlaceIs (d .store) p spot → takenAt (d .store) p ≡ isHeld spot
+  spot-is p free h k = empty-is (d .store) p h k
+  spot-is p (held a b x y z) h k = taken-is (d .store) p (k .taken)
+
+  taken-piece : (p : ℕ) → p < Limits.places → takenAt (d .store) p ≡ true → pieceAt (d .store) p ≡ pieceOf plan p
+  taken-piece p h t = place-piece p (place-held p (taken-of (d .store) p h t))
+
+  pub axis-is : (axis : ℕ) → axis < 3 → Agree (axisOf (axesOf (d .store)) axis) (axisOf (axesIn plan) axis)
+  axis-is axis h = record {
+    taken = λ p l. spot-is p (plan .place p) l (s .holds .places p);
+    low = λ p l t. low-is (d .store) p axis h ∙ ap (lowOf axis) (taken-piece p l t);
+    high = λ p l t. high-is (d .store) p axis h ∙ ap (highOf axis) (taken-piece p l t);
+  }
+
 -- ---- THE THEOREM
 pub record Stands (d : Desk) (log : List Command) : Type 0 where
   pub order : InOrder d
@@ -138,21 +155,16 @@ rows-are h rows a = afresh-once (reached-stands h .rows) a
 
 -- ---- the same accepted commands, the same rows, tallies and marks, whatever was refused between them
 module _ {d e : Desk} {plan : Plan} (s : Standing d plan) (u : Standing e plan) where
-  same-held : (p : ℕ) → p < Limits.places → takenAt (d .store) p ≡ takenAt (e .store) p
-  same-held p h =
-      by-taken (d .store .poses) p h
-      (λ t. taken-is (d .store) p t ∙ sym (taken-is (e .store) p (place-taken u p (place-held s p t))))
-      (λ f. empty-is (d .store) p h f ∙ sym (empty-is (e .store) p h (λ t. f (place-taken s p (place-held u p t)))))
-
-  same-list : (p : ℕ) → p < Limits.places → takenAt (d .store) p ≡ true → pieceAt (d .store) p ≡ pieceAt (e .store) p
-  same-list p h t = let k = place-held s p (taken-of (d .store) p h t) in place-piece s p k ∙ sym (place-piece u p k)
-
   same-axis : (axis : ℕ) → axis < 3 → Agree (axisOf (axesOf (d .store)) axis) (axisOf (axesOf (e .store)) axis)
-  same-axis axis h = record {
-    taken = same-held;
-    low = λ p l t. low-is (d .store) p axis h ∙ ap (lowOf axis) (same-list p l t) ∙ sym (low-is (e .store) p axis h);
-    high = λ p l t. high-is (d .store) p axis h ∙ ap (highOf axis) (same-list p l t) ∙ sym (high-is (e .store) p axis h);
-  }
+  same-axis axis h =
+      let a = axis-is s axis h in
+      let b = axis-is u axis h in
+      let also : (p : ℕ) → p < Limits.places → takenAt (d .store) p ≡ true → takenAt (e .store) p ≡ true = λ p l t. b .taken p l ∙ sym (a .taken p l) ∙ t in
+      record {
+        taken = λ p l. a .taken p l ∙ sym (b .taken p l);
+        low = λ p l t. a .low p l t ∙ sym (b .low p l (also p l t));
+        high = λ p l t. a .high p l t ∙ sym (b .high p l (also p l t));
+      }
 
   same-marks : d .marks ≡ e .marks
   same-marks =
@@ -182,28 +194,49 @@ Handles (place p s t x y z) q = q ≡ natAbs p
 Handles (move p t x y z) q = q ≡ natAbs p
 Handles (remove p) q = q ≡ natAbs p
 
--- "A move reports a count [..]. Other commands report 0."
-abbrev pub reported : Command → Desk → Desk → ℕ
-reported start before after = 0
-reported (load s numbers) before after = 0
-reported (place p s t x y z) before after = 0
-reported (move p t x y z) before after = changedMarks (axesOf (before .store)) (axesOf (after .store)) (natAbs p)
-reported (remove p) before after = 0
-
+-- the rows that do not name the handled place stay; and by whatever log the desk was reached, the count is that of the pieces as its accepted commands put them
 pub record Changes (c : Command) (before after : Desk) (count : ℕ) : Type 0 where
   pub rows : (low high : ℕ) → low < Limits.places → high < Limits.places → (Handles c low → ⊥) → (Handles c high → ⊥) → rowAt (after .rows) low high ≡ rowAt (before .rows) low high
-  pub counted : count ≡ reported c before after
+  pub counted : (log : List Command) → Reached before log → count ≡ reported c (planOf log)
   pub most : count ≤ 12 * (Limits.places - 1)
 
 none-counted : {n : ℕ} → n ≡ 0 → n ≤ 12 * (Limits.places - 1)
 none-counted e = omega arith
 
+accepted-standing : {before after : Desk} (log : List Command) (c : Command) (r : Outcome) → Reached before log → Does c before after r → numberOf r ≡ 0 → Standing after (planAfter c (planOf log))
+accepted-standing {after} log c r h k e = subst (λ (n : ℕ). Standing after (planOf (logged n c log))) e (step log c r (standing h) k)
+
+-- a move takes no place and empties none
+turned-held : (spot : Spot) (t : ℕ) (x y z : ℤ) → isHeld spot ≡ isHeld (turned spot t x y z)
+turned-held free t x y z = refl
+turned-held (held s u a b c) t x y z = refl
+
+move-held : (plan : Plan) (p t x y z : ℤ) (q : ℕ) → isHeld (plan .place q) ≡ isHeld (planAfter (move p t x y z) plan .place q)
+move-held plan p t x y z =
+    at-each (λ q spot. isHeld (plan .place q) ≡ isHeld spot) (plan .place) (natAbs p) (turned (plan .place (natAbs p)) (natAbs t) x y z)
+    (turned-held (plan .place (natAbs p)) (natAbs t) x y z)
+    (λ q f. refl)
+
+-- the count of the desk's marks is that of the plan's
+move-count : {before after : Desk} (plan : Plan) (p t x y z : ℤ) → Standing before plan → Standing after (planAfter (move p t x y z) plan) → Taken (after .store .poses) (natAbs p)
+    → changedMarks (axesOf (before .store)) (axesOf (after .store)) (natAbs p) ≡ reported (move p t x y z) plan
+move-count {before} {after} plan p t x y z s u taken = count-same (natAbs p) (taken .place) (axis-is s) (axis-is u) stay (stay (natAbs p) (taken .place) ∙ taken-is (after .store) (natAbs p) taken)
+  where
+    stay : (q : ℕ) → q < Limits.places → takenAt (before .store) q ≡ takenAt (after .store) q
+    stay q h = axis-is s 0 (omega arith) .taken q h ∙ move-held plan p t x y z q ∙ sym (axis-is u 0 (omega arith) .taken q h)
+
 pub accepted-changes : {before after : Desk} (c : Command) (r : Outcome) → Does c before after r → numberOf r ≡ 0 → Changes c before after (countOf r)
-accepted-changes start r k e = let a = k .done e in record { rows = λ low high h l f g. absurd (f tt); counted = a .1; most = none-counted (a .1) }
-accepted-changes (load s numbers) r k e = let a = k .done e in record { rows = λ low high h l f g. ap (λ (d : Desk). rowAt (d .rows) low high) (a .0); counted = a .2; most = none-counted (a .2) }
-accepted-changes (place p s t x y z) r k e = let a = k .done e in record { rows = handled-other (a .0 .rows); counted = a .1; most = none-counted (a .1) }
-accepted-changes (move p t x y z) r k e = let a = k .done e in record { rows = handled-other (a .put .rows); counted = a .counted; most = a .most }
-accepted-changes (remove p) r k e = let a = k .done e in record { rows = a .0 .rows .kept; counted = a .1; most = none-counted (a .1) }
+accepted-changes start r k e = let a = k .done e in record { rows = λ low high h l f g. absurd (f tt); counted = λ log h. a .1; most = none-counted (a .1) }
+accepted-changes (load s numbers) r k e = let a = k .done e in record { rows = λ low high h l f g. ap (λ (d : Desk). rowAt (d .rows) low high) (a .0); counted = λ log h. a .2; most = none-counted (a .2) }
+accepted-changes (place p s t x y z) r k e = let a = k .done e in record { rows = handled-other (a .0 .rows); counted = λ log h. a .1; most = none-counted (a .1) }
+accepted-changes (move p t x y z) r k e =
+    let a = k .done e in
+    record {
+      rows = handled-other (a .put .rows);
+      counted = λ log h. a .counted ∙ move-count (planOf log) p t x y z (standing h) (accepted-standing log (move p t x y z) r h k e) (a .put .taken);
+      most = a .most;
+    }
+accepted-changes (remove p) r k e = let a = k .done e in record { rows = a .0 .rows .kept; counted = λ log h. a .1; most = none-counted (a .1) }
 
 -- refused: "desk, marks and room stay as they were", and the count is zero
 module _ {l : List Refusal} {Accepted : ℕ → Type 0} {before after : Desk} where

@@ -1,5 +1,5 @@
 -- A move's count depends on which places are taken and on the ends of their pieces, and on nothing else.
--- So the count of a desk is that of the axes of `marks` Bench, where it is computed.
+-- So the count of a desk is that of any axes that agree with the desk's: a plan's, or a table's.
 use mathlib.Core.Path.{_≡_, refl, sym, ap, ap₂, _∙_}
 use mathlib.Core.Bool.{Bool, true, false, cond, _&&_, not, xor}
 use Prim.Native.Nat.{ℕ, _+_, _<_}
@@ -8,7 +8,7 @@ use lib.Dec.{eqb, ltb}
 use lib.IntN.{ℤ}
 use lib.Signed.{ltZ}
 use Rattle.limits.specs.Limits
-use Rattle.marks.specs.Marks.{Axis, placeOf, sideOf, lowMark, highMark, valueOf, earlier, crossed, isOther, changed, Agree}
+use Rattle.marks.specs.Marks.{Axis, Axes, axisOf, placeOf, sideOf, lowMark, highMark, valueOf, earlier, crossed, isOther, changed, changedMarks, Agree}
 use Rattle.ints.specs.Counts.{oneIf, sum-same, and-false}
 
 value-same : {a b : Axis} → Agree a b → (m : ℕ) → m < Limits.axisMarks → a .taken (placeOf m) ≡ true → valueOf a m ≡ valueOf b m
@@ -29,7 +29,7 @@ module _ {old new old′ new′ : Axis} (place : ℕ) (hp : place < Limits.place
       (earlier-same o own other h k s t)
       (earlier-same n own other h k (sym (stay (placeOf own) (omega arith)) ∙ s) (sym (stay (placeOf other) (omega arith)) ∙ t))
 
-  pub changed-same : changed old new place ≡ changed old′ new′ place
+  changed-same : changed old new place ≡ changed old′ new′ place
   unfolding changed
   changed-same = sum-same Limits.axisMarks _ _ (λ other k. each other k (old .taken (placeOf other)) refl)
     where
@@ -46,3 +46,11 @@ module _ {old new old′ new′ : Axis} (place : ℕ) (hp : place < Limits.place
         where
           none : (a : Axis) (v : ℕ) → a .taken (placeOf other) ≡ false → cond (isOther a place other) v 0 ≡ 0
           none a v f = ap (λ (c : Bool). cond (c && not (eqb (placeOf other) place)) v 0) (ap (λ (c : Bool). ltb other Limits.axisMarks && c) f ∙ and-false (ltb other Limits.axisMarks))
+
+-- over the three axes
+pub count-same : {old new old′ new′ : Axes} (place : ℕ) → place < Limits.places → ((axis : ℕ) → axis < 3 → Agree (axisOf old axis) (axisOf old′ axis)) → ((axis : ℕ) → axis < 3 → Agree (axisOf new axis) (axisOf new′ axis))
+    → ((p : ℕ) → p < Limits.places → old .taken p ≡ new .taken p) → old .taken place ≡ true → changedMarks old new place ≡ changedMarks old′ new′ place
+count-same {old} {new} {old′} {new′} place h o n stay here = ap₂ _+_ (ap₂ _+_ (on 0 (omega arith)) (on 1 (omega arith))) (on 2 (omega arith))
+  where
+    on : (axis : ℕ) → axis < 3 → changed (axisOf old axis) (axisOf new axis) place ≡ changed (axisOf old′ axis) (axisOf new′ axis) place
+    on axis l = changed-same place h (o axis l) (n axis l) stay here
