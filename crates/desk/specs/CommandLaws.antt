@@ -4,7 +4,6 @@ use mathlib.Core.Path.{_≡_, refl, sym, ap, _∙_, subst}
 use mathlib.Core.List.{List}
 use mathlib.Core.Logic.{inl, inr}
 use Prim.Native.Nat.{ℕ, _*_, _<_}
-use native.Mathlib.Decide.{ℕ-discrete}
 use native.Mathlib.Omega.{arith}
 use lib.IntN.{ℤ, pos, natAbs}
 use lib.ListN.{replicate}
@@ -23,8 +22,8 @@ use Rattle.marks.specs.Marks.{InPlaceMarks, changedMarks}
 use Rattle.marks.specs.Buffer.{none-in-place-marks, one-buffer}
 use Rattle.pieces.specs.Pieces.{Store, axesOf, pieceAt}
 use Rattle.pieces.specs.Store.{ranged}
-use Rattle.space.specs.Exclusion.{verdict-once}
 use Rattle.walk.specs.Answers.{nothing, Carries}
+use Rattle.walk.specs.AnswerLaws.{OneAnswer, one-answer}
 use Rattle.walk.specs.declared.Answer.{Answer}
 use Rattle.handling.specs.Handled.{Emptied, PutDown}
 use Rattle.pairs.specs.RowLaws.{carries-at, right-once}
@@ -136,13 +135,6 @@ pair-answers {d} {first} {second} {r = r} h ei ej c = record {
   carries = λ _. carries-at (ap (pieceAt (d .store)) ei) (ap (pieceAt (d .store)) ej) c .1;
 }
 
--- the number and the verdict cannot vary; the witnesses may
-pub pairs-once : {d : Desk} {first second : ℤ} {q r : Answer} → Pairs d first second q → Pairs d first second r → (q .number ≡ r .number) × (q .verdict ≡ r .verdict)
-pairs-once {d} {first} {second} {q} {r} a b = (same, go (ℕ-discrete (q .number) Limits.done))
-  where
-    same : q .number ≡ r .number
-    same = lowest-once (pairRefusals d first second) (a .refusal) (b .refusal)
-
-    go : Dec (q .number ≡ Limits.done) → q .verdict ≡ r .verdict
-    go (yes z) = verdict-once (a .carries z .right) (b .carries (sym same ∙ z) .right)
-    go (no f) = ap (λ (x : Answer). x .verdict) (a .zeros f) ∙ sym (ap (λ (x : Answer). x .verdict) (b .zeros (λ z. f (same ∙ z))))
+-- only witnesses may vary
+pub pairs-once : {d : Desk} {first second : ℤ} {q r : Answer} → Pairs d first second q → Pairs d first second r → OneAnswer q r
+pairs-once {d} {first} {second} a b = one-answer (lowest-once (pairRefusals d first second) (a .refusal) (b .refusal)) (a .zeros) (b .zeros) (a .carries) (b .carries)

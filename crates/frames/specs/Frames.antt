@@ -3,14 +3,14 @@
 use mathlib.Core.Path.{_≡_, refl, sym, ap, ap₂, _∙_, subst}
 use mathlib.Core.List.{[], _∷_}
 use mathlib.Core.Bool.{Bool, true, false}
-use mathlib.Core.Logic.{_⊎_, inr, ⊎-elim}
+use mathlib.Core.Logic.{_⊎_, inl, inr, ⊎-elim}
 use Prim.Native.Nat.{ℕ, zero, suc, _+_, _-_, _≤_, _<_}
 use native.Mathlib.Omega.{arith}
 use lib.Dec.{T, ltb, leb, leb→le, eqb}
 use mir.Syntax.{w64}
 use mir.Val.{ofZ}
 use lib.IntN.{ℤ, pos, negsuc, _+ℤ_, _-ℤ_, _*ℤ_}
-use lib.Signed.{_≤ℤ_, _<ℤ_, ltZ}
+use lib.Signed.{_≤ℤ_, _<ℤ_, clashℤ, ltZ}
 use borrow.Author.Tests.{lt-ltb, le-ltb, eqb-true, eqb-false}
 use Rattle.ints.specs.Quote.{sides, by-ring}
 use Rattle.ints.specs.Order.{le-comb, nn-of-le, le-of-eq, eq-comb, z-diff, z-add, lt-or-ge, nn-pos}
@@ -539,6 +539,13 @@ abbrev pub Started : Frame → Portal → Type 0
 Started f r =
     ((det (f .a .at) (f .b .at) (f .c .at) <ℤ pos 0) × (r ≡ record { a = f .a; b = f .b; c = f .c }))
     ⊎ ((pos 0 ≤ℤ det (f .a .at) (f .b .at) (f .c .at)) × (r ≡ record { a = f .a; b = f .c; c = f .b }))
+
+-- a frame has one portal to start from
+pub started-once : (f : Frame) {q r : Portal} → Started f q → Started f r → q ≡ r
+started-once f (inl a) (inl b) = a .1 ∙ sym (b .1)
+started-once f (inl a) (inr b) = clashℤ (a .0) (b .0)
+started-once f (inr a) (inl b) = clashℤ (b .0) (a .0)
+started-once f (inr a) (inr b) = a .1 ∙ sym (b .1)
 
 -- the first two of three points' sum, which is small
 pub pair-sum : {a b y : Vec3} → Upto pointReach a → Upto pointReach b → y ≡ plus a b → Upto crossReach y

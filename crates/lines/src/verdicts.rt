@@ -30,7 +30,8 @@ fn three_numbers(d: space::Vec3, out: &mut [u8], at: usize) -> usize {
     out::next_number(out, next, d.z)
 }
 
-// The pairs that an answer carries.
+// The pairs that an answer carries. No answer of the pair question counts more than four; the printer takes any, and looks itself, so that it
+// asks nothing of its caller.
 fn carried(count: usize, pairs: [space::Pair; 4], out: &mut [u8], at: usize) -> usize {
     let mut next = at;
     let mut i: usize = 0;

@@ -37,6 +37,14 @@ no-balance w0 w1 w2 w3 t u v w h0 h1 h2 h3 ht hu hv hw e =
     (lt-comb (pos-add (pos-add (pos-add (pos-mul h0 (pos-of-lt ht)) (nn-mul h1 (nn-of-le hu))) (nn-mul h2 (nn-of-le hv))) (nn-mul h3 (nn-of-le hw)))
     (by-ring (w0 ∷ w1 ∷ w2 ∷ w3 ∷ t ∷ u ∷ v ∷ w ∷ []) (search sides depth 40) refl)))
 
+-- a walk's two ends exclude each other: what meets is not all behind any direction
+pub not-behind : {D : Vec3 → Type 0} {q p a b c : Vec3} (n : Vec3) → D p → D a → D b → D c → Met q p a b c → Behind D q n → ⊥
+not-behind {D} {q} {p} {a} {b} {c} n mp ma mb mc met h = no-balance _ _ _ _ (dot n (hat q p)) (dot n (hat q a)) (dot n (hat q b)) (dot n (hat q c))
+    (met .w0) (met .w1) (met .w2) (met .w3) (low p mp) (lt→≤ℤ (low a ma)) (lt→≤ℤ (low b mb)) (lt→≤ℤ (low c mc)) (zero-sum-dot (met .sum) n)
+  where
+    low : (y : Vec3) → D y → dot n (hat q y) <ℤ pos 0
+    low y m = subst (λ z. z <ℤ pos 0) (sym (hat-dot q y n)) (h .all y m)
+
 -- ---- W1: touching
 pub record Wall (D : Vec3 → Type 0) (n : Vec3) : Type 0 where
   pub flat : (y : Vec3) → D y → dot n y ≤ℤ pos 0

@@ -66,6 +66,7 @@ pub record Turned (q : Vec3) (f t : Three) (p : Vec3) (r : ℕ) : Type 0 where
   pub one : r ≡ 1 → Follows q f t (three p (t .b) (t .c))
   pub two : r ≡ 2 → Follows q f t (three (t .a) p (t .c))
   pub rest : (r ≡ 0 → ⊥) → (r ≡ 1 → ⊥) → (r ≡ 2 → ⊥) → Follows q f t (three (t .a) (t .b) p)
+  pub few : r ≤ 3
 
 -- ---- rotation
 pub ready-rot : {q : Vec3} {f t : Three} {p : Vec3} → Ready q f t p → Ready q f (rot t) p
@@ -118,16 +119,16 @@ choose-third-or-none false e k u v = choose-none k u v (unsaid e refl)
 
 -- ---- a whole turn
 pub turned-met : {q : Vec3} {f t : Three} {p : Vec3} {r : ℕ} → r ≡ 0 → Ready q f t p → AllNN (side q p (t .b) (t .c)) (side q p (t .c) (t .a)) (side q p (t .a) (t .b)) → Turned q f t p r
-turned-met e r n = record { met = λ _. meet (r .setting) (r .held) (r .inp) n; one = λ k. absurd (omega arith); two = λ k. absurd (omega arith); rest = λ f g h. absurd (f e) }
+turned-met e r n = record { met = λ _. meet (r .setting) (r .held) (r .inp) n; one = λ k. absurd (omega arith); two = λ k. absurd (omega arith); rest = λ f g h. absurd (f e); few = omega arith }
 
 put-one : {q : Vec3} {f t : Three} {p : Vec3} {r : ℕ} → r ≡ 1 → Follows q f t (three p (t .b) (t .c)) → Turned q f t p r
-put-one e m = record { met = λ k. absurd (omega arith); one = λ _. m; two = λ k. absurd (omega arith); rest = λ f g h. absurd (g e) }
+put-one e m = record { met = λ k. absurd (omega arith); one = λ _. m; two = λ k. absurd (omega arith); rest = λ f g h. absurd (g e); few = omega arith }
 
 put-two : {q : Vec3} {f t : Three} {p : Vec3} {r : ℕ} → r ≡ 2 → Follows q f t (three (t .a) p (t .c)) → Turned q f t p r
-put-two e m = record { met = λ k. absurd (omega arith); one = λ k. absurd (omega arith); two = λ _. m; rest = λ f g h. absurd (h e) }
+put-two e m = record { met = λ k. absurd (omega arith); one = λ k. absurd (omega arith); two = λ _. m; rest = λ f g h. absurd (h e); few = omega arith }
 
 put-three : {q : Vec3} {f t : Three} {p : Vec3} {r : ℕ} → r ≡ 3 → Follows q f t (three (t .a) (t .b) p) → Turned q f t p r
-put-three e m = record { met = λ k. absurd (omega arith); one = λ k. absurd (omega arith); two = λ k. absurd (omega arith); rest = λ f g h. m }
+put-three e m = record { met = λ k. absurd (omega arith); one = λ k. absurd (omega arith); two = λ k. absurd (omega arith); rest = λ f g h. m; few = omega arith }
 
 pub turned-first : {q : Vec3} {f t : Three} {p : Vec3} {r : ℕ} (b : Bool) → r ≡ chosen b 2 1 → Beside q f t p b → Turned q f t p r
 turned-first true e n = put-two e (n .second refl)

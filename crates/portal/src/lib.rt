@@ -21,7 +21,7 @@ pub struct Three {
 }
 
 // Whether p is outside at the edge from b to c.
-pub fn outside(q: Vec3, p: Vec3, b: Vec3, c: Vec3) -> bool
+fn outside(q: Vec3, p: Vec3, b: Vec3, c: Vec3) -> bool
     requires { ⌜ Upto shiftReach q × Upto pointReach p × Upto pointReach b × Upto pointReach c ⌝ }
     ensures { λ r. ⌜ r ≡ ltZ (side q p b c) (pos 0) ⌝ }
 {
@@ -31,7 +31,7 @@ pub fn outside(q: Vec3, p: Vec3, b: Vec3, c: Vec3) -> bool
 }
 
 // The first of m·a, m·b, m·c that is not 0.
-pub fn leading(m: Vec3, f: Three) -> i64
+fn leading(m: Vec3, f: Three) -> i64
     requires { ⌜ Upto crossReach m × Upto pointReach (f .a) × Upto pointReach (f .b) × Upto pointReach (f .c) ⌝ }
     ensures { λ r. ⌜ r ≡ leadingOf m f ⌝ }
 {
@@ -42,7 +42,7 @@ pub fn leading(m: Vec3, f: Three) -> i64
 }
 
 // On which side of the ray the edge from p to r passes.
-pub fn tied(q: Vec3, p: Vec3, r: Vec3, f: Three) -> bool
+fn tied(q: Vec3, p: Vec3, r: Vec3, f: Three) -> bool
     requires { ⌜ Upto shiftReach q × Upto pointReach p × Upto pointReach r × Upto pointReach (f .a) × Upto pointReach (f .b) × Upto pointReach (f .c) ⌝ }
     ensures { λ s. ⌜ s ≡ ltZ (tie q p r (f .a) (f .b) (f .c)) (pos 0) ⌝ }
 {
@@ -51,7 +51,7 @@ pub fn tied(q: Vec3, p: Vec3, r: Vec3, f: Three) -> bool
     first_of(leading(m, f), leading(n, f)) < 0
 }
 
-pub fn rotated(t: Three) -> Three
+fn rotated(t: Three) -> Three
     ensures { λ r. ⌜ r ≡ rot t ⌝ }
 {
     let a = t.a;
@@ -61,7 +61,7 @@ pub fn rotated(t: Three) -> Three
 }
 
 // Of two slots, the first where n is true.
-pub fn choose(n: bool, x: u8, y: u8) -> u8
+fn choose(n: bool, x: u8, y: u8) -> u8
     ensures { λ r. ⌜ r ≡ chosen n x y ⌝ }
 {
     if n {
@@ -71,7 +71,7 @@ pub fn choose(n: bool, x: u8, y: u8) -> u8
 }
 
 // In the first slot's turn: whether p takes the second corner's place, and not the first's.
-pub fn beside(q: Vec3, f: Three, t: Three, p: Vec3) -> bool
+fn beside(q: Vec3, f: Three, t: Three, p: Vec3) -> bool
     requires { ⌜ Ready q f t p ⌝ }
     requires { ⌜ First q t p ⌝ }
     ensures { λ r. ⌜ Beside q f t p r ⌝ }
@@ -85,7 +85,7 @@ pub fn beside(q: Vec3, f: Three, t: Three, p: Vec3) -> bool
 }
 
 // The slot whose turn it is: 1, 2 or 3, or 0 where p is inside at all three edges.
-pub fn slot_of(q: Vec3, f: Three, t: Three, p: Vec3) -> u8
+fn slot_of(q: Vec3, f: Three, t: Three, p: Vec3) -> u8
     requires { ⌜ Ready q f t p ⌝ }
     ensures { λ r. ⌜ Choice q t p r ⌝ }
 {

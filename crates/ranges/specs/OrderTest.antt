@@ -16,14 +16,10 @@ use Rattle.limits.specs.Limits
 use Rattle.limits.specs.Decides.{Decides, holds, fails}
 use Rattle.rows.specs.Rows.{Taken}
 use Rattle.rows.specs.Cells.{decides-once}
-use Rattle.space.specs.Lists.{InReach, Reach}
+use Rattle.space.specs.Lists.{InReach}
 use Rattle.pieces.specs.Pieces.{Store, storeOf, cornersOf, shapeNumber, shapeAt, turnAt, Loaded, ShapesInOrder, PlaceInOrder, PlacesInOrder, PiecesInOrder}
 
 -- ---- a part of a list of numbers
-
--- the reach of shapes and offsets can be negated
-pub shape-reach : Reach (pos Limits.shapeReach)
-shape-reach = record { size = Limits.shapeReach; is = refl; most = omega arith }
 
 -- count numbers from start on are within the reach of shapes and offsets
 pub record Near (numbers : List ℤ) (start count : ℕ) : Type 0 where

@@ -1,7 +1,7 @@
 -- The walk itself: what it holds at each turn, and what its two ends say.
 -- It begins with a portal of the set; it ends with all of the set behind the portal, or with a meeting.
-use mathlib.Core.Path.{_≡_, sym, ap, ap₂, _∙_, subst}
-use mathlib.Core.Bool.{true, false}
+use mathlib.Core.Path.{_≡_, refl, sym, ap, ap₂, _∙_, subst}
+use mathlib.Core.Bool.{Bool, true, false}
 use mathlib.Core.Logic.{_⊎_, inl, inr}
 use Prim.Native.Nat.{ℕ, _≤_, _<_}
 use native.Mathlib.Omega.{arith}
@@ -19,7 +19,7 @@ use Rattle.space.specs.Lists.{Placed}
 use Rattle.portal.specs.declared.Three.{Three}
 use Rattle.portal.specs.Sizes.{bigK, front-under}
 use Rattle.portal.specs.Step.{Setting, Held, Met, left}
-use Rattle.portal.specs.Exits.{Behind, x1}
+use Rattle.portal.specs.Exits.{Behind, not-behind, x1}
 use Rattle.portal.specs.Turn.{Ready, Turned}
 use Rattle.route.specs.declared.support.Point.{Point}
 use Rattle.route.specs.declared.path.Portal.{Portal}
@@ -55,6 +55,19 @@ pub record Walked (A B : Piece) (g q : Vec3) (f : Three) (r : Ended) : Type 0 wh
   pub last : Tagged A B g (r .last)
   pub apart : r .met ≡ false → Behind (Spread A B g) q (r .normal)
   pub met : r .met ≡ true → Met q (r .last .at) (r .portal .a .at) (r .portal .b .at) (r .portal .c .at)
+
+-- by which of its two ends a walk ends is one; where it ends may vary
+clash : {A B : Piece} {g q : Vec3} {f : Three} {r s : Ended} → Walked A B g q f r → Walked A B g q f s → r .met ≡ true → s .met ≡ false → ⊥
+clash {s = s} v w t u = not-behind (s .normal) (spread-of (v .last)) (spread-of (v .begun .ofa)) (spread-of (v .begun .ofb)) (spread-of (v .begun .ofc)) (v .met t) (w .apart u)
+
+pub walked-once : {A B : Piece} {g q : Vec3} {f : Three} {r s : Ended} → Walked A B g q f r → Walked A B g q f s → r .met ≡ s .met
+walked-once {A} {B} {g} {q} {f} {r} {s} v w = go (r .met) (s .met) refl refl
+  where
+    go : (a b : Bool) → r .met ≡ a → s .met ≡ b → r .met ≡ s .met
+    go true true t u = t ∙ sym u
+    go true false t u = absurd (clash v w t u)
+    go false true t u = absurd (clash w v u t)
+    go false false t u = t ∙ sym u
 
 -- ---- p for one of the three
 pub record Replaced (t : Portal) (s : ℕ) (p : Point) (r : Portal) : Type 0 where

@@ -2,15 +2,15 @@
 -- What was gathered is a list of fair pairs whose weighted differences have a known sum.
 use mathlib.Core.Path.{_≡_, refl, sym, ap, ap₂, _∙_, subst}
 use mathlib.Core.List.{List, [], _∷_, _++_, List·Memᴰ, List·Memᴰ·append-cases, List·Memᴰ·eq-of-singleton, List·Memᴰ·not-nil}
-use mathlib.Core.Logic.{_⊎_, ⊎-elim}
+use mathlib.Core.Logic.{⊎-elim}
 use Prim.Native.Nat.{ℕ, zero, suc, _+_, _≤_, _<_}
 use native.Mathlib.Omega.{arith}
 use native.Mathlib.Numerals.{add-one}
 use mir.Syntax.{w64}
 use mir.Val.{toZ, ofZ}
 use mir.Facts.{sfits-lit}
-use lib.ListN.{length, set, take, drop, length-set}
-use lib.Seq.{take-suc-set}
+use lib.ListN.{length, set, take, getD, length-set}
+use lib.Seq.{take-suc-set, getD-set-other}
 use lib.IntN.{ℤ, pos, _+ℤ_, _-ℤ_, _*ℤ_, +ℤ-idl, +ℤ-idr, +ℤ-assoc, zero-*ℤ}
 use lib.Signed.{_≤ℤ_, clashℤ}
 use Rattle.ints.specs.Order.{trichotomy, lt-succ}
@@ -26,7 +26,7 @@ use Rattle.space.specs.Verdicts.{Piece, cornerAt, cornerCount, weighted, Fair}
 use Rattle.route.specs.declared.support.Point.{Point}
 use Rattle.route.specs.declared.path.Ended.{Ended}
 use Rattle.route.specs.declared.gather.Gathered.{Gathered}
-use Rattle.route.specs.NoPairs.{noPairs}
+use Rattle.route.specs.NoPairs.{noPair, noPairs}
 
 abbrev pub pairOf : Point → ℤ → Pair
 pairOf p w = record { first = p .first; second = p .second; weight = w }
@@ -52,11 +52,19 @@ pub record Gather (A B : Piece) (n : ℕ) (x y z : ℤ) (g : Gathered) : Type 0 
   pub sum-x : weighted (λ v. v .x) A B (take (g .count) (g .pairs)) ≡ x
   pub sum-y : weighted (λ v. v .y) A B (take (g .count) (g .pairs)) ≡ y
   pub sum-z : weighted (λ v. v .z) A B (take (g .count) (g .pairs)) ≡ z
-  pub rest : drop (g .count) (g .pairs) ≡ drop (g .count) noPairs
+  pub rest : (k : ℕ) → g .count ≤ k → getD (g .pairs) k noPair ≡ noPair
+
+-- there is no pair among none
+pub none-at : (k : ℕ) → getD noPairs k noPair ≡ noPair
+none-at zero = refl
+none-at (suc zero) = refl
+none-at (suc (suc zero)) = refl
+none-at (suc (suc (suc zero))) = refl
+none-at (suc (suc (suc (suc k)))) = refl
 
 pub gather-none : (A B : Piece) → Gather A B 0 (pos 0) (pos 0) (pos 0) nothingYet
 unfolding weighted
-gather-none A B = record { size = refl; few = omega arith; fair = λ p m. absurd (List·Memᴰ·not-nil m); sum-x = refl; sum-y = refl; sum-z = refl; rest = refl }
+gather-none A B = record { size = refl; few = omega arith; fair = λ p m. absurd (List·Memᴰ·not-nil m); sum-x = refl; sum-y = refl; sum-z = refl; rest = λ k _. none-at k }
 
 -- ---- lists
 weighted-snoc : (along : Vec3 → ℤ) (A B : Piece) (ps : List Pair) (p : Pair)
@@ -69,19 +77,6 @@ weighted-snoc along A B [] p = +ℤ-idr t ∙ sym (+ℤ-idl t)
 weighted-snoc along A B (q ∷ ps) p =
     ap (λ s. q .weight *ℤ along (minus (cornerAt A (q .first)) (cornerAt B (q .second))) +ℤ s) (weighted-snoc along A B ps p)
     ∙ sym (+ℤ-assoc (q .weight *ℤ along (minus (cornerAt A (q .first)) (cornerAt B (q .second)))) (weighted along A B ps) (p .weight *ℤ along (minus (cornerAt A (p .first)) (cornerAt B (p .second)))))
-
-drop-set : (l : List Pair) (i : ℕ) (x : Pair) → drop (suc i) (set l i x) ≡ drop (suc i) l
-drop-set [] i x = refl
-drop-set (y ∷ l) zero x = refl
-drop-set (y ∷ l) (suc i) x = drop-set l i x
-
-drop-next : (l m : List Pair) (i : ℕ) → drop i l ≡ drop i m → drop (suc i) l ≡ drop (suc i) m
-drop-next l m i e = sym (one-more l i) ∙ ap (drop 1) e ∙ one-more m i
-  where
-    one-more : (l : List Pair) (i : ℕ) → drop 1 (drop i l) ≡ drop (suc i) l
-    one-more l zero = refl
-    one-more [] (suc i) = refl
-    one-more (x ∷ l) (suc i) = one-more l i
 
 -- ---- one more
 module _ {A B : Piece} {n : ℕ} {x y z w : ℤ} {g r : Gathered} {p : Point} (h : Gather A B n x y z g) (room : n < 4) (o : (p .first < cornerCount A) × (p .second < cornerCount B)) (nn : pos 0 ≤ℤ w) (most : w ≤ℤ pos weightMost) (u : Pushed g p w r) where
@@ -107,7 +102,7 @@ module _ {A B : Piece} {n : ℕ} {x y z w : ℤ} {g r : Gathered} {p : Point} (h
     sum-x = ap (weighted (λ v. v .x) A B) now-is ∙ weighted-snoc (λ v. v .x) A B (take (g .count) (g .pairs)) (pairOf p w) ∙ ap (λ s. s +ℤ w *ℤ baseOf A B p .x) (h .sum-x);
     sum-y = ap (weighted (λ v. v .y) A B) now-is ∙ weighted-snoc (λ v. v .y) A B (take (g .count) (g .pairs)) (pairOf p w) ∙ ap (λ s. s +ℤ w *ℤ baseOf A B p .y) (h .sum-y);
     sum-z = ap (weighted (λ v. v .z) A B) now-is ∙ weighted-snoc (λ v. v .z) A B (take (g .count) (g .pairs)) (pairOf p w) ∙ ap (λ s. s +ℤ w *ℤ baseOf A B p .z) (h .sum-z);
-    rest = ap₂ drop count-is (u .stored f) ∙ drop-set (g .pairs) (g .count) (pairOf p w) ∙ drop-next (g .pairs) noPairs (g .count) (h .rest) ∙ ap (λ k. drop k noPairs) (sym count-is);
+    rest = λ k l. ap (λ ps. getD ps k noPair) (u .stored f) ∙ getD-set-other (g .pairs) (g .count) k (pairOf p w) noPair (λ e. let n = u .counted f in omega arith) ∙ h .rest k (let n = u .counted f in omega arith);
   }
     where
       count-is : r .count ≡ suc (g .count)
@@ -169,13 +164,27 @@ pub record Weighed (e : Ended) (r : Gathered) : Type 0 where
   pub third : Pushed g2 (e .portal .b) (det (e .portal .a .at) (e .last .at) (e .portal .c .at)) g3
   pub fourth : Pushed g3 (e .portal .c) (det (e .portal .a .at) (e .portal .b .at) (e .last .at)) r
 
+-- ---- what is gathered is one
+pushed-once : {g q r : Gathered} {p : Point} {w : ℤ} → Pushed g p w q → Pushed g p w r → q ≡ r
+pushed-once {g} {q} {r} {p} {w} u v = ⊎-elim (λ k. some (λ e. lt-other k e)) (⊎-elim (λ k. u .none k ∙ sym (v .none k)) (λ k. some (λ e. gt-other k e))) (trichotomy w (pos 0))
+  where
+    some : (w ≡ pos 0 → ⊥) → q ≡ r
+    some f = λ i. record { count = (u .counted f ∙ sym (v .counted f)) i; pairs = (u .stored f ∙ sym (v .stored f)) i }
+
+pub weighed-once : {e : Ended} {q r : Gathered} → Weighed e q → Weighed e r → q ≡ r
+weighed-once a b =
+    let one = pushed-once (a .first) (b .first) in
+    let two = pushed-once (pushed-as one refl (a .second)) (b .second) in
+    let three = pushed-once (pushed-as two refl (a .third)) (b .third) in
+    pushed-once (pushed-as three refl (a .fourth)) (b .fourth)
+
+-- ---- the weights as the code holds them
 pub weight-within : {a b c : Vec3} → Upto pointReach a → Upto pointReach b → Upto pointReach c → Within weightReach (det a b c)
 weight-within u v w = within (search known depth 15) tt
 
 pub minus-within : {z : ℤ} → Within weightReach z → Within weightReach (pos 0 -ℤ z)
 minus-within w = within (search known depth 9) tt
 
--- a weight as the code holds it
 pub weight-is : {w v : ℤ} → w ≡ v → Within weightReach v → toZ w64 (ofZ w64 w) ≡ v
 weight-is e h = worth (k-back w64 _ (k-is e (k-within h))) tt
 

@@ -3,7 +3,8 @@
 use mathlib.Core.Path.{_≡_}
 use Prim.Native.Nat.{ℕ, _*_, _≤_, _<_}
 use lib.ListN.{length, getD}
-use lib.IntN.{ℤ, pos}
+use lib.IntN.{ℤ, pos, natAbs}
+use lib.Signed.{_≤ℤ_}
 use Rattle.ints.specs.Bounds.{Within}
 use Rattle.limits.specs.Limits.{corners, placedReach}
 use Rattle.space.specs.Verdicts.{Piece}
@@ -19,11 +20,13 @@ pub record LengthFits (n : ℕ) : Type 0 where
 pub record InReach (reach : ℕ) (s : Piece) : Type 0 where
   pub all : (k : ℕ) → k < length s → Within reach (getD s k (pos 0))
 
--- a reach that can be negated: not negative, and no larger than a placed corner's
-pub record Reach (reach : ℤ) : Type 0 where
-  pub size : ℕ
-  pub is : reach ≡ pos size
-  pub most : size ≤ placedReach
+-- |z| ≤ reach, for a reach of either sign: where it is below zero, no number is near
+pub record IsNear (reach z : ℤ) : Type 0 where
+  pub abs : pos (natAbs z) ≤ℤ reach
+
+-- every number of the list is near
+pub record AllNear (reach : ℤ) (s : Piece) : Type 0 where
+  pub all : (k : ℕ) → k < length s → IsNear reach (getD s k (pos 0))
 
 -- a list of placed corners that no refusal meets
 pub record Placed (s : Piece) : Type 0 where

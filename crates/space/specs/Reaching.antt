@@ -7,16 +7,18 @@ use Prim.Native.Nat.{ℕ, _+_, _/_, _%_, _≤_, _<_}
 use native.Mathlib.Omega.{arith}
 use lib.Dec.{leb}
 use lib.ListN.{getD}
-use lib.IntN.{ℤ, pos, negℤ, natAbs, _-ℤ_, +ℤ-idl}
+use lib.IntN.{ℤ, pos, negsuc, negℤ, natAbs, _-ℤ_, +ℤ-idl}
 use lib.Signed.{_≤ℤ_, _<ℤ_, clashℤ, leZ}
+use mir.Syntax.{w32}
+use mir.Val.{SFits}
 use borrow.Author.Tests.{leb-true, leb-false}
 use Rattle.ints.specs.Bounds.{Within, within-upper, within-lower, within-of}
-use Rattle.ints.specs.Order.{lt-or-ge}
+use Rattle.ints.specs.Order.{lt-or-ge, ≤ℤ-trans, nn-pos, nn-dest, pos-le, le-pos}
 use Rattle.ints.specs.Tests.{le-of-true, lt-of-false}
 use Rattle.limits.specs.Decides.{Decides, holds, fails}
-use Rattle.limits.specs.Limits.{shapeNumbers, placedReach}
+use Rattle.limits.specs.Limits.{shapeNumbers}
 use Rattle.space.specs.Verdicts.{Piece}
-use Rattle.space.specs.Lists.{LengthFits, Reach}
+use Rattle.space.specs.Lists.{LengthFits, InReach, IsNear, AllNear}
 
 -- ---- the length
 pub fits-none : {n : ℕ} → n ≡ 0 → LengthFits n → ⊥
@@ -33,28 +35,51 @@ fits-most n h e = go (leb n shapeNumbers) refl
     go false k = let l = leb-false n shapeNumbers k in fails refl (λ f. let a = f .most in let b = f .is in omega arith)
 
 -- ---- one number
-size-is : {reach : ℤ} (r : Reach reach) → natAbs reach ≡ r .size
-size-is r = ap natAbs (r .is)
+-- a reach of zero or more is a count
+pub near-is : {n : ℕ} {z : ℤ} → IsNear (pos n) z → Within n z
+near-is h = record { abs = le-pos (h .abs) }
 
-pub near-below : {x reach : ℤ} → Reach reach → x <ℤ (pos 0 -ℤ reach) → Within (natAbs reach) x → ⊥
-near-below {x} {reach} r h w =
-    clashℤ (subst (λ z. x <ℤ z) (ap (λ z. pos 0 -ℤ z) (r .is) ∙ +ℤ-idl (negℤ (pos (r .size)))) h) (within-lower (subst (λ n. Within n x) (size-is r) w))
+pub is-near : {n : ℕ} {z : ℤ} → Within n z → IsNear (pos n) z
+is-near w = record { abs = pos-le (w .abs) }
 
-pub near-decided : {x reach : ℤ} → Reach reach → (pos 0 -ℤ reach) ≤ℤ x → Decides (leZ x reach) (Within (natAbs reach) x)
-near-decided {x} {reach} r h = go (leZ x reach) refl
-  where
-    go : (b : Bool) → leZ x reach ≡ b → Decides b (Within (natAbs reach) x)
-    go true k = holds refl (subst (λ n. Within n x) (sym (size-is r))
-        (within-of (subst (λ z. z ≤ℤ x) (ap (λ z. pos 0 -ℤ z) (r .is) ∙ +ℤ-idl (negℤ (pos (r .size)))) h) (subst (λ z. x ≤ℤ z) (r .is) (le-of-true k))))
-    go false k = fails refl (λ w. clashℤ (lt-of-false k) (subst (λ z. x ≤ℤ z) (sym (r .is)) (within-upper (subst (λ n. Within n x) (size-is r) w))))
+pub near-within : {b : Bool} {n : ℕ} {z : ℤ} → Decides b (IsNear (pos n) z) → Decides b (Within n z)
+near-within d = record { yes = λ t. near-is (d .yes t); no = λ f w. d .no f (is-near w) }
+
+pub near-none : {x reach : ℤ} → reach <ℤ pos 0 → IsNear reach x → ⊥
+near-none {x} h n = clashℤ h (≤ℤ-trans (nn-pos (natAbs x)) (n .abs))
+
+module _ {reach : ℤ} (nn : pos 0 ≤ℤ reach) where
+  size : ℕ
+  size = nn-dest nn .0
+
+  size-is : reach ≡ pos size
+  unfolding size
+  size-is = nn-dest nn .1
+
+  minus-is : pos 0 -ℤ reach ≡ negℤ (pos size)
+  minus-is = ap (λ z. pos 0 -ℤ z) size-is ∙ +ℤ-idl (negℤ (pos size))
+
+  within-size : {x : ℤ} → IsNear reach x → Within size x
+  within-size {x} n = near-is (subst (λ z. IsNear z x) size-is n)
+
+  pub near-below : {x : ℤ} → x <ℤ (pos 0 -ℤ reach) → IsNear reach x → ⊥
+  near-below {x} h n = clashℤ (subst (λ z. x <ℤ z) minus-is h) (within-lower (within-size n))
+
+  pub near-decided : {x : ℤ} → (pos 0 -ℤ reach) ≤ℤ x → Decides (leZ x reach) (IsNear reach x)
+  near-decided {x} h = go (leZ x reach) refl
+    where
+      go : (b : Bool) → leZ x reach ≡ b → Decides b (IsNear reach x)
+      go true k = holds refl (subst (λ z. IsNear z x) (sym size-is) (is-near (within-of (subst (λ z. z ≤ℤ x) minus-is h) (subst (λ z. x ≤ℤ z) size-is (le-of-true k)))))
+      go false k = fails refl (λ n. clashℤ (lt-of-false k) (subst (λ z. x ≤ℤ z) (sym size-is) (within-upper (within-size n))))
+
+-- a reach that is not negative can be negated
+pub reach-most : {reach : ℤ} → pos 0 ≤ℤ reach → SFits w32 reach → Within 2147483647 reach
+reach-most {reach = pos n} h f = record { abs = let k = f .sfits in omega arith }
+reach-most {reach = negsuc n} h f = absurd (h .le)
 
 -- ---- a whole list
-pub reach-more : {n : ℕ} (s : Piece) (i : ℕ) → ((k : ℕ) → k < i → Within n (getD s k (pos 0))) → Within n (getD s i (pos 0)) → (k : ℕ) → k < i + 1 → Within n (getD s k (pos 0))
-reach-more {n} s i h t k lt = ⊎-elim (λ (e : k < i). h k e) (λ (e : i ≤ k). let g : k ≡ i = omega arith in subst (λ j. Within n (getD s j (pos 0))) (sym g) t) (lt-or-ge k i)
+pub near-all : {b : Bool} {n : ℕ} {s : Piece} → Decides b (AllNear (pos n) s) → Decides b (InReach n s)
+near-all d = record { yes = λ t. record { all = λ k h. near-is (d .yes t .all k h) }; no = λ f w. d .no f (record { all = λ k h. is-near (w .all k h) }) }
 
-pub reach-most : {reach : ℤ} → Reach reach → Within placedReach reach
-reach-most {reach} r = subst (Within placedReach) (sym (r .is)) (record { abs = r .most })
-
--- a reach that a loop holds as bits
-pub same-size : {m n z : ℤ} → m ≡ n → Within (natAbs m) z → Within (natAbs n) z
-same-size {z} e w = subst (λ k. Within (natAbs k) z) e w
+pub near-more : {reach : ℤ} (s : Piece) (i : ℕ) → ((k : ℕ) → k < i → IsNear reach (getD s k (pos 0))) → IsNear reach (getD s i (pos 0)) → (k : ℕ) → k < i + 1 → IsNear reach (getD s k (pos 0))
+near-more {reach} s i h t k lt = ⊎-elim (λ (e : k < i). h k e) (λ (e : i ≤ k). let g : k ≡ i = omega arith in subst (λ j. IsNear reach (getD s j (pos 0))) (sym g) t) (lt-or-ge k i)

@@ -1,12 +1,10 @@
 // Points and directions of whole numbers: the kernels of the verdict's arithmetic, each with its exact value and its range.
 // The ranges are those of the walk (specs/Ranges.antt); the kernels are internal to the project, and every caller meets them.
 ghost use mathlib.Core.Path.{_≡_};
-ghost use lib.IntN.{natAbs};
 ghost use Rattle.ints.specs.Sign.{lex};
 ghost use Rattle.space.specs.Vectors.{dot, cross, minus, plus, opposite, det};
 ghost use Rattle.limits.specs.Decides.{Decides};
-ghost use Rattle.ints.specs.Bounds.{Within};
-ghost use Rattle.space.specs.Lists.{LengthFits, InReach, Reach};
+ghost use Rattle.space.specs.Lists.{LengthFits, IsNear, AllNear};
 ghost use Rattle.space.specs.Ranges.{Upto, pointReach, pairReach, shiftReach, crossReach, sumReach};
 
 pub struct Vec3 {
@@ -115,11 +113,13 @@ pub fn length_fits(n: usize) -> bool
     n <= limits::SHAPE_NUMBERS
 }
 
-// Whether a number is within ±reach.
+// Whether a number is within ±reach; none is where the reach is below zero.
 pub fn near(x: i32, reach: i32) -> bool
-    requires { ⌜ Reach reach ⌝ }
-    ensures { λ r. ⌜ Decides r (Within (natAbs reach) x) ⌝ }
+    ensures { λ r. ⌜ Decides r (IsNear reach x) ⌝ }
 {
+    if reach < 0 {
+        return false;
+    }
     if x < -reach {
         return false;
     }
@@ -128,8 +128,7 @@ pub fn near(x: i32, reach: i32) -> bool
 
 // Whether every number of a list is within ±reach.
 pub fn in_reach(s: &[i32], reach: i32) -> bool
-    requires { ⌜ Reach reach ⌝ }
-    ensures { λ r. ⌜ Decides r (InReach (natAbs reach) (now (s .entry))) ⌝ }
+    ensures { λ r. ⌜ Decides r (AllNear reach (now (s .entry))) ⌝ }
 {
     let mut i = 0;
     while i < s.len() {

@@ -1,20 +1,18 @@
 -- THE ANSWER to the pair question on two lent lists of placed corners, as document 01 has it: the refusals, the verdict, what it carries.
--- No proof stands here but that two answers which are allowed for the same lists have one number and one verdict.
-use mathlib.Core.Path.{_≡_, sym, ap, _∙_}
+-- No proof stands here: that only witnesses may vary between two answers is in AnswerLaws.
+use mathlib.Core.Path.{_≡_}
 use mathlib.Core.List.{List, [], _∷_}
 use mathlib.Core.Logic.{_⊎_}
-use Prim.Native.Nat.{ℕ}
-use native.Mathlib.Decide.{ℕ-discrete}
-use lib.ListN.{length, take, drop}
+use Prim.Native.Nat.{ℕ, _≤_}
+use lib.ListN.{length, take, getD}
 use Rattle.limits.specs.Limits.{listLength, placedRange, placedReach, directionReach, done}
-use Rattle.limits.specs.Lowest.{Refusal, Lowest, _when_, lowest-once}
+use Rattle.limits.specs.Lowest.{Refusal, Lowest, _when_}
 use Rattle.space.specs.declared.Pair.{Pair}
 use Rattle.space.specs.Vectors.{origin}
 use Rattle.space.specs.Ranges.{Upto}
 use Rattle.space.specs.Verdicts.{Piece, Below, Supported, Balance, VerdictIs, separate, touching, penetrating}
 use Rattle.space.specs.Lists.{LengthFits, InReach}
-use Rattle.space.specs.Exclusion.{verdict-once}
-use Rattle.route.specs.NoPairs.{noPairs}
+use Rattle.route.specs.NoPairs.{noPair, noPairs}
 use Rattle.walk.specs.declared.Answer.{Answer}
 
 -- 3: "a corner list's length isn't 3 × (1 to 32)"
@@ -36,7 +34,8 @@ carried r = take (r .count) (r .pairs)
 abbrev pub nothing : ℕ → Answer
 nothing n = record { number = n; verdict = 0; direction = origin; count = 0; pairs = noPairs }
 
--- what an answer with a verdict carries: "components within 2^39 in size", and one to four pairs where the pieces meet
+-- what an answer with a verdict carries: "components within 2^39 in size", and "one to four pairs" where the pieces meet.
+-- "Fields that a verdict doesn't carry are zero": of its four pairs every one from `count` on
 pub record Carries (A B : Piece) (r : Answer) : Type 0 where
   pub right : VerdictIs A B (r .verdict)
   pub small : Upto directionReach (r .direction)
@@ -44,22 +43,13 @@ pub record Carries (A B : Piece) (r : Answer) : Type 0 where
   pub supporting : r .verdict ≡ touching → Supported (r .direction) A B
   pub undirected : r .verdict ≡ penetrating → r .direction ≡ origin
   pub unpaired : r .verdict ≡ separate → r .count ≡ 0
+  pub paired : (r .verdict ≡ separate → ⊥) → (1 ≤ r .count) × (r .count ≤ 4)
   pub meeting : (r .verdict ≡ separate → ⊥) → Balance A B (carried r)
-  pub rest : drop (r .count) (r .pairs) ≡ drop (r .count) noPairs
+  pub four : length (r .pairs) ≡ 4
+  pub rest : (k : ℕ) → r .count ≤ k → getD (r .pairs) k noPair ≡ noPair
 
 -- the whole promise: for every two lists
 pub record Answers (A B : Piece) (r : Answer) : Type 0 where
   pub refusal : Lowest (refusals A B) (r .number)
   pub zeros : (r .number ≡ done → ⊥) → r ≡ nothing (r .number)
   pub carries : r .number ≡ done → Carries A B r
-
--- two answers allowed for the same lists have one number and one verdict; the witnesses may vary
-pub answers-once : {A B : Piece} {q r : Answer} → Answers A B q → Answers A B r → (q .number ≡ r .number) × (q .verdict ≡ r .verdict)
-answers-once {A} {B} {q} {r} a b = (same, go (ℕ-discrete (q .number) done))
-  where
-    same : q .number ≡ r .number
-    same = lowest-once (refusals A B) (a .refusal) (b .refusal)
-
-    go : Dec (q .number ≡ done) → q .verdict ≡ r .verdict
-    go (yes z) = verdict-once (a .carries z .right) (b .carries (sym same ∙ z) .right)
-    go (no f) = ap (λ (x : Answer). x .verdict) (a .zeros f) ∙ sym (ap (λ (x : Answer). x .verdict) (b .zeros (λ z. f (same ∙ z))))

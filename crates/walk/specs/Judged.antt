@@ -4,11 +4,10 @@ use mathlib.Core.Path.{_≡_, refl, sym, ap, _∙_, subst}
 use mathlib.Core.List.{List, [], _∷_}
 use mathlib.Core.Bool.{Bool, true, false}
 use mathlib.Core.Logic.{_⊎_, inl, inr, ⊎-elim}
-use Prim.Native.Nat.{ℕ, _+_, _≤_, _<_}
+use Prim.Native.Nat.{ℕ, _+_, _≤_}
 use native.Mathlib.Omega.{arith}
-use native.Mathlib.Nat.{le-refl}
 use lib.Dec.{T}
-use lib.ListN.{length, take, drop, length-take}
+use lib.ListN.{length, take, getD, length-take}
 use lib.IntN.{ℤ, pos, negℤ, _+ℤ_, _-ℤ_, _*ℤ_, *ℤ-zero, +ℤ-idl}
 use lib.Signed.{_≤ℤ_, _<ℤ_, clashℤ}
 use Rattle.ints.specs.Quote.{sides, by-ring}
@@ -22,7 +21,7 @@ use Rattle.space.specs.declared.Pair.{Pair}
 use Rattle.space.specs.Vectors.{dot, det, normal, env1, origin}
 use Rattle.space.specs.Ranges.{Upto, pointReach, shiftReach, weightReach}
 use Rattle.space.specs.Verdicts.{Piece, Below, Supported, Balance, touching, penetrating}
-use Rattle.space.specs.Lists.{LengthFits, InReach, Reach, Placed}
+use Rattle.space.specs.Lists.{LengthFits, InReach, Placed}
 use Rattle.portal.specs.declared.Three.{Three}
 use Rattle.portal.specs.Portal.{ZeroSum, depth, cramer}
 use Rattle.portal.specs.Sizes.{bigK, posK, front-under, start, start-turned, start-shifted, plain, plain-nn}
@@ -34,11 +33,11 @@ use Rattle.route.specs.declared.path.Portal.{Portal}
 use Rattle.route.specs.declared.path.Ended.{Ended}
 use Rattle.frames.specs.declared.frame.Frame.{Frame}
 use Rattle.route.specs.declared.gather.Gathered.{Gathered}
-use Rattle.route.specs.NoPairs.{noPairs}
+use Rattle.route.specs.NoPairs.{noPair, noPairs}
 use Rattle.route.specs.Points.{Spread, Tagged, spread-of, below-of, not-above-of, walled-by}
 use Rattle.route.specs.Ends.{Ground, Begun, Walked, Corners, Near, point-upto}
 use Rattle.frames.specs.Frames.{Framed, Dropping, framePlaces, Started, origin-upto}
-use Rattle.route.specs.Gather.{baseOf, Gather, Weighed, weight-within, minus-within, gather-none, gather-more, count-grows}
+use Rattle.route.specs.Gather.{baseOf, Gather, Weighed, weight-within, minus-within, none-at, gather-none, gather-more, count-grows}
 use Rattle.walk.specs.declared.Answer.{Answer}
 use Rattle.walk.specs.Answers.{nothing, BadLength, OutOfReach, Carries, Answers}
 
@@ -129,11 +128,14 @@ drops : {A B : Piece} {g : Vec3} {p : Point} (d : Dropping A B g) → Tagged A B
 drops {A} {B} {g} {p} d t = subst (λ v. Drops (d .k) (d .r1) (d .r2) (d .r3) v (baseOf A B p)) (sym (t .is)) (d .drop (p .first) (p .second) (t .of-first) (t .of-second) (t .signs) (t .are))
 
 pub record Weights (A B : Piece) (r : Gathered) : Type 0 where
+  pub counted : (1 ≤ r .count) × (r .count ≤ 4)
   pub balance : Balance A B (take (r .count) (r .pairs))
-  pub rest : drop (r .count) (r .pairs) ≡ drop (r .count) noPairs
+  pub four : length (r .pairs) ≡ 4
+  pub rest : (k : ℕ) → r .count ≤ k → getD (r .pairs) k noPair ≡ noPair
 
 pub weights : {A B : Piece} {f : Frame} {e : Ended} {r : Gathered} (pa : Placed A) (pb : Placed B) (k : Framed A B f) → Walked A B (f .widths) origin (framePlaces f) e → e .met ≡ true → Weighed e r → Weights A B r
 weights {A} {B} {f} {e} {r} pa pb k w t h = record {
+  counted = (counted, g4 .few);
   balance = record {
     some = some;
     few = few;
@@ -142,6 +144,7 @@ weights {A} {B} {f} {e} {r} pa pb k w t h = record {
     zero-y = g4 .sum-y ∙ back (w0 *ℤ bp .y) (w1′ *ℤ ba .y) (w2′ *ℤ bb .y) (w3 *ℤ bc .y) ∙ zero .by;
     zero-z = g4 .sum-z ∙ back (w0 *ℤ bp .z) (w1′ *ℤ ba .z) (w2′ *ℤ bb .z) (w3 *ℤ bc .z) ∙ zero .bz;
   };
+  four = g4 .size;
   rest = g4 .rest;
 }
   where
@@ -230,11 +233,8 @@ weights {A} {B} {f} {e} {r} pa pb k w t h = record {
     few = let l = length-take (r .count) (r .pairs) in let z = g4 .size in omega arith
 
 -- ---- the answers
-abbrev pub touchingWith : Vec3 → Gathered → Answer
-touchingWith d g = record { number = 0; verdict = touching; direction = d; count = g .count; pairs = g .pairs }
-
-abbrev pub penetratingWith : Gathered → Answer
-penetratingWith g = record { number = 0; verdict = penetrating; direction = origin; count = g .count; pairs = g .pairs }
+abbrev pub meetingWith : ℕ → Vec3 → Gathered → Answer
+meetingWith v d g = record { number = 0; verdict = v; direction = d; count = g .count; pairs = g .pairs }
 
 pub carries-separate : {A B : Piece} {n : Vec3} → Below n A B → Upto directionReach n → Carries A B (record { number = 0; verdict = 1; direction = n; count = 0; pairs = noPairs })
 carries-separate {n} h u = record {
@@ -244,11 +244,13 @@ carries-separate {n} h u = record {
   supporting = λ e. absurd (omega arith);
   undirected = λ e. absurd (omega arith);
   unpaired = λ _. refl;
+  paired = λ f. absurd (f refl);
   meeting = λ f. absurd (f refl);
-  rest = refl;
+  four = refl;
+  rest = λ k _. none-at k;
 }
 
-pub carries-touching : {A B : Piece} {d : Vec3} {g : Gathered} → Supported d A B → Upto directionReach d → Weights A B g → Carries A B (touchingWith d g)
+pub carries-touching : {A B : Piece} {d : Vec3} {g : Gathered} → Supported d A B → Upto directionReach d → Weights A B g → Carries A B (meetingWith touching d g)
 carries-touching {d} {g} h u w = record {
   right = inr (inl (refl, record { meeting = record { pairs = take (g .count) (g .pairs); balance = w .balance }; direction = d; supported = h }));
   small = u;
@@ -256,11 +258,13 @@ carries-touching {d} {g} h u w = record {
   supporting = λ _. h;
   undirected = λ e. absurd (omega arith);
   unpaired = λ e. absurd (omega arith);
+  paired = λ _. w .counted;
   meeting = λ _. w .balance;
+  four = w .four;
   rest = w .rest;
 }
 
-pub carries-penetrating : {A B : Piece} {g : Gathered} → ((d : Vec3) → Supported d A B → ⊥) → Weights A B g → Carries A B (penetratingWith g)
+pub carries-penetrating : {A B : Piece} {g : Gathered} → ((d : Vec3) → Supported d A B → ⊥) → Weights A B g → Carries A B (meetingWith penetrating origin g)
 carries-penetrating {g} h w = record {
   right = inr (inr (refl, record { meeting = record { pairs = take (g .count) (g .pairs); balance = w .balance }; free = h }));
   small = origin-upto directionReach;
@@ -268,7 +272,9 @@ carries-penetrating {g} h w = record {
   supporting = λ e. absurd (omega arith);
   undirected = λ _. refl;
   unpaired = λ e. absurd (omega arith);
+  paired = λ _. w .counted;
   meeting = λ _. w .balance;
+  four = w .four;
   rest = w .rest;
 }
 
@@ -332,17 +338,14 @@ not-either : {P Q : Type 0} → P × Q → (P → ⊥) ⊎ (Q → ⊥) → ⊥
 not-either h (inl f) = f (h .0)
 not-either h (inr f) = f (h .1)
 
-pub answered : {A B : Piece} {r : Answer} → BothFit A B → BothNear A B → (r .number ≡ 0) × Carries A B r → Answers A B r
-answered f n c = record { refusal = inr (not-either f, inr (not-either n, c .0)); zeros = λ g. absurd (g (c .0)); carries = λ _. c .1 }
+pub answered-long : {A B : Piece} {r : Answer} → BadLength A B → r ≡ nothing listLength → Answers A B r
+answered-long f e = record { refusal = inl (f, ap (λ r. r .number) e); zeros = λ _. e ∙ ap nothing (sym (ap (λ r. r .number) e)); carries = λ z. absurd (let k = ap (λ r. r .number) e in omega arith) }
 
 pub answered-far : {A B : Piece} {r : Answer} → BothFit A B → OutOfReach A B → r ≡ nothing placedRange → Answers A B r
 answered-far f n e = record { refusal = inr (not-either f, inl (n, ap (λ r. r .number) e)); zeros = λ _. e ∙ ap nothing (sym (ap (λ r. r .number) e)); carries = λ z. absurd (let k = ap (λ r. r .number) e in omega arith) }
 
-pub answered-long : {A B : Piece} {r : Answer} → BadLength A B → r ≡ nothing listLength → Answers A B r
-answered-long f e = record { refusal = inl (f, ap (λ r. r .number) e); zeros = λ _. e ∙ ap nothing (sym (ap (λ r. r .number) e)); carries = λ z. absurd (let k = ap (λ r. r .number) e in omega arith) }
-
-pub placed-reach : Reach (pos placedReach)
-placed-reach = record { size = placedReach; is = refl; most = le-refl placedReach }
+pub answered : {A B : Piece} {r : Answer} → BothFit A B → BothNear A B → (r .number ≡ 0) × Carries A B r → Answers A B r
+answered f n c = record { refusal = inr (not-either f, inr (not-either n, c .0)); zeros = λ g. absurd (g (c .0)); carries = λ _. c .1 }
 
 pub answer-eq : {n v k : ℕ} {d d′ : Vec3} {ps ps′ : List Pair} → d ≡ d′ → ps ≡ ps′
     → _≡_ {A = Answer} (record { number = n; verdict = v; direction = d; count = k; pairs = ps }) (record { number = n; verdict = v; direction = d′; count = k; pairs = ps′ })

@@ -4,7 +4,7 @@ ghost use mathlib.Core.Path.{_≡_};
 ghost use Rattle.space.specs.Vectors.{origin};
 ghost use Rattle.space.specs.Lists.{Placed};
 ghost use Rattle.walk.specs.Answers.{nothing, BadLength, OutOfReach, Carries, Answers};
-ghost use Rattle.walk.specs.Judged.{touchingWith, penetratingWith, MeetingAt, Tells, BothFit, BothNear};
+ghost use Rattle.walk.specs.Judged.{meetingWith, MeetingAt, Tells, BothFit, BothNear};
 use frames::Frame;
 use frames::frame_of;
 use frames::frame_places;
@@ -48,29 +48,16 @@ fn no_direction() -> Vec3
     Vec3 { x: 0, y: 0, z: 0 }
 }
 
-fn touching_with(direction: Vec3, k: Gathered) -> Answer
-    ensures { λ r. ⌜ r ≡ touchingWith direction k ⌝ }
+// The answer of two pieces that meet, with the pairs that were gathered.
+fn meeting_with(verdict: u8, direction: Vec3, k: Gathered) -> Answer
+    ensures { λ r. ⌜ r ≡ meetingWith verdict direction k ⌝ }
 {
     let count = k.count;
     let pairs = k.pairs;
     Answer {
         number: limits::DONE,
-        verdict: 2,
+        verdict: verdict,
         direction: direction,
-        count: count,
-        pairs: pairs,
-    }
-}
-
-fn penetrating_with(k: Gathered) -> Answer
-    ensures { λ r. ⌜ r ≡ penetratingWith k ⌝ }
-{
-    let count = k.count;
-    let pairs = k.pairs;
-    Answer {
-        number: limits::DONE,
-        verdict: 3,
-        direction: no_direction(),
         count: count,
         pairs: pairs,
     }
@@ -91,13 +78,13 @@ fn meeting_verdict(f: Frame, e: Ended, first: &[i32], second: &[i32]) -> Answer
         let w = walk(shift_of(v), v, t, g, first, second);
         let inside = w.met;
         if inside {
-            return penetrating_with(k);
+            return meeting_with(3, no_direction(), k);
         }
         let n = w.normal;
-        return touching_with(n, k);
+        return meeting_with(2, n, k);
     }
     let d = f.flat;
-    touching_with(d, k)
+    meeting_with(2, d, k)
 }
 
 // The verdict of two lists of placed corners, with its witnesses.

@@ -7,6 +7,7 @@ use mir.Facts.{toZ-ofZ}
 use Rattle.limits.specs.Limits
 use Rattle.limits.specs.Decides.{unless-taken, unless-left}
 use mathlib.Core.List.{[]}
+use Rattle.space.specs.Reaching.{near-all}
 use Rattle.pieces.specs.Pieces.{Loaded, storeOf}
 use Rattle.numbers.specs.Index.{Indexed}
 use Rattle.numbers.specs.Asked.{asked-refused, asked-passed}
@@ -32,15 +33,14 @@ returns-2 c =
     asked-refused (inr (λ f. f (y .0), inl (unless-taken (c .before .length-fits .ensures) (c .if2 .taken), refl))) (omega arith)
 
 in-reach-requires : tie.Need-in-reach-requires
-in-reach-requires c κs =
-    record { size = Limits.shapeReach; is = refl; most = omega arith }
+in-reach-requires c κs = search needs
 
 returns-3 : tie.Need-returns-3
 returns-3 c =
     let i = subst (λ (z : ℤ). Indexed Limits.shapes z (c .before .before .before .before .before .index-of .result)) (toZ-ofZ (c .before .before .before .before .before .before .fits .shape)) (c .before .before .before .before .before .index-of .ensures) in
     let y = i .yes (omega (arith, c .before .before .before .before .if1 .left)) in
     let l = unless-left (c .before .before .before .length-fits .ensures) (c .before .before .if2 .left) in
-    asked-refused (inr (λ f. f (y .0), inr (λ f. f l, inl (unless-taken (c .before .in-reach .ensures) (c .if3 .taken), refl)))) (omega arith)
+    asked-refused (inr (λ f. f (y .0), inr (λ f. f l, inl (unless-taken (near-all (c .before .in-reach .ensures)) (c .if3 .taken), refl)))) (omega arith)
 
 is-loaded-requires : tie.Need-is-loaded-requires
 is-loaded-requires c κs = search needs
@@ -50,7 +50,7 @@ returns-4 c =
     let i = subst (λ (z : ℤ). Indexed Limits.shapes z (c .before .before .before .before .before .before .before .index-of .result)) (toZ-ofZ (c .before .before .before .before .before .before .before .before .fits .shape)) (c .before .before .before .before .before .before .before .index-of .ensures) in
     let y = i .yes (omega (arith, c .before .before .before .before .before .before .if1 .left)) in
     let l = unless-left (c .before .before .before .before .before .length-fits .ensures) (c .before .before .before .before .if2 .left) in
-    let r = unless-left (c .before .before .before .in-reach .ensures) (c .before .before .if3 .left) in
+    let r = unless-left (near-all (c .before .before .before .in-reach .ensures)) (c .before .before .if3 .left) in
     asked-refused (inr (λ f. f (y .0), inr (λ f. f l, inr (λ f. f r, inl (subst (Loaded _) (y .1) (c .before .is-loaded .ensures .yes (c .if4 .taken)), refl))))) (omega arith)
 
 returns-5 : tie.Need-returns-5
@@ -58,7 +58,7 @@ returns-5 c =
     let i = subst (λ (z : ℤ). Indexed Limits.shapes z (c .before .before .before .before .before .before .before .index-of .result)) (toZ-ofZ (c .before .before .before .before .before .before .before .before .fits .shape)) (c .before .before .before .before .before .before .before .index-of .ensures) in
     let y = i .yes (omega (arith, c .before .before .before .before .before .before .if1 .left)) in
     let l = unless-left (c .before .before .before .before .before .length-fits .ensures) (c .before .before .before .before .if2 .left) in
-    let r = unless-left (c .before .before .before .in-reach .ensures) (c .before .before .if3 .left) in
+    let r = unless-left (near-all (c .before .before .before .in-reach .ensures)) (c .before .before .if3 .left) in
     let free : Loaded (storeOf (c .before .before .before .before .before .before .before .before .args .counts .now) [] [] []) (natAbs (c .before .before .before .before .before .before .before .before .args .shape)) → ⊥ = λ t. c .before .is-loaded .ensures .no (c .if4 .left) (subst (Loaded _) (sym (y .1)) t) in
     asked-passed (inr (λ f. f (y .0), inr (λ f. f l, inr (λ f. f r, inr (free, refl))))) (record { numbered = y .0; fits = l; near = r; free = free })
 

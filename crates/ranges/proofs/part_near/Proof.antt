@@ -1,6 +1,7 @@
 -- `ranges::part_near` meets its contract: the part is the list's numbers from start on.
 -- Assumes nothing.
-use Rattle.ranges.specs.OrderTest.{shape-reach, near-part}
+use Rattle.space.specs.Reaching.{near-all}
+use Rattle.ranges.specs.OrderTest.{near-part}
 use borrow.Author.Needs.{needs}
 use Rattle.ranges.proofs.part_near.Statement.{statement}
 use Rattle.ranges.proofs.part_near.Tie as tie
@@ -21,12 +22,12 @@ part-in-reach-end : tie.Need-part-in-reach-end
 part-in-reach-end c = search needs
 
 in-reach-requires : tie.Need-in-reach-requires
-in-reach-requires c κs = shape-reach
+in-reach-requires c κs = search needs
 
 returns : tie.Need-returns
 returns c =
     let a = c .before .before .args in
-    near-part (a .numbers .now) (a .start) (a .count) (c .before .before .pre) (c .in-reach .ensures)
+    near-part (a .numbers .now) (a .start) (a .count) (c .before .before .pre) (near-all (c .in-reach .ensures))
 
 pub part-near-spec : {M : Type 1} → statement M
 part-near-spec =

@@ -14,7 +14,7 @@ farthest-requires : tie.Need-farthest-requires
 farthest-requires c κs = search needs
 
 farthest-requires-2 : tie.Need-farthest-requires-2
-farthest-requires-2 c κs = (opposite-upto (c .before .before .pre .0 .0) (c .before .opposite .ensures .0), c .before .before .pre .1 .1)
+farthest-requires-2 c κs = (search (needs, opposite-upto (c .before .before .pre .0 .0) (c .before .opposite .ensures .0)), c .before .before .pre .1 .1)
 
 corner-requires : tie.Need-corner-requires
 corner-requires c κs = search needs
