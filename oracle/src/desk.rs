@@ -9,6 +9,10 @@ use crate::verdict::decide;
 pub const SHAPES: usize = 32;
 pub const PLACES: usize = 64;
 pub const CORNERS: usize = 32;
+/// A shape has its count of corners, then three numbers for each corner that it may have.
+pub const SHAPE_CELLS: usize = 1 + 3 * CORNERS;
+/// A place has its shape plus one, or 0, then its turn and the three numbers of its offset.
+pub const PLACE_CELLS: usize = 5;
 pub const NUMBER_LIMIT: Number = 65_536;
 pub const PLACED_LIMIT: Number = 131_072;
 pub const MARKS: usize = 384;
@@ -20,21 +24,17 @@ pub const TALLIES: usize = 4;
 /// The lent parts that `spoil` names.
 #[derive(Clone, Copy, PartialEq, Eq, Debug)]
 pub enum Part {
-    Counts,
-    Corners,
-    Poses,
-    Offsets,
+    Shapes,
+    Places,
     Rows,
     Book,
     Marks,
 }
 
 impl Part {
-    pub const ALL: [Part; 7] = [
-        Part::Counts,
-        Part::Corners,
-        Part::Poses,
-        Part::Offsets,
+    pub const ALL: [Part; 5] = [
+        Part::Shapes,
+        Part::Places,
         Part::Rows,
         Part::Book,
         Part::Marks,
@@ -42,10 +42,8 @@ impl Part {
 
     pub fn word(self) -> &'static str {
         match self {
-            Part::Counts => "counts",
-            Part::Corners => "corners",
-            Part::Poses => "poses",
-            Part::Offsets => "offsets",
+            Part::Shapes => "shapes",
+            Part::Places => "places",
             Part::Rows => "rows",
             Part::Book => "book",
             Part::Marks => "marks",
@@ -54,10 +52,8 @@ impl Part {
 
     pub fn cells(self) -> usize {
         match self {
-            Part::Counts => SHAPES,
-            Part::Corners => SHAPES * CORNERS * 3,
-            Part::Poses => PLACES * 2,
-            Part::Offsets => PLACES * 3,
+            Part::Shapes => SHAPES * SHAPE_CELLS,
+            Part::Places => PLACES * PLACE_CELLS,
             Part::Rows => PLACES * PLACES,
             Part::Book => 16,
             Part::Marks => 400,
@@ -67,8 +63,8 @@ impl Part {
     /// Does the value fit a cell of this part?
     pub fn fits(self, value: Number) -> bool {
         let range = match self {
-            Part::Counts | Part::Poses | Part::Rows => 0..=Number::from(u8::MAX),
-            Part::Corners | Part::Offsets => Number::from(i32::MIN)..=Number::from(i32::MAX),
+            Part::Shapes | Part::Places => Number::from(i32::MIN)..=Number::from(i32::MAX),
+            Part::Rows => 0..=Number::from(u8::MAX),
             Part::Book => 0..=Number::from(u32::MAX),
             Part::Marks => 0..=Number::from(u16::MAX),
         };
@@ -76,12 +72,35 @@ impl Part {
     }
 }
 
+/// The cell of a shape's count.
+pub fn count_cell(shape: usize) -> usize {
+    SHAPE_CELLS * shape
+}
+
+/// The cell of number k of a shape.
+pub fn number_cell(shape: usize, k: usize) -> usize {
+    count_cell(shape) + 1 + k
+}
+
+/// The cell of what a place holds: its shape plus one, or 0.
+pub fn held_cell(place: usize) -> usize {
+    PLACE_CELLS * place
+}
+
+pub fn turn_cell(place: usize) -> usize {
+    held_cell(place) + 1
+}
+
+pub fn offset_cell(place: usize, axis: usize) -> usize {
+    held_cell(place) + 2 + axis
+}
+
 /// A row of the desk: lower place, higher place, verdict.
 pub type Row = (usize, usize, Number);
 
 #[derive(Clone)]
 pub struct Desk {
-    parts: [Vec<Number>; 7],
+    parts: [Vec<Number>; 5],
     /// How many cells of the marks are lent.
     pub lent: usize,
 }
@@ -170,31 +189,46 @@ impl Desk {
 
     /// No shapes, places or rows, tallies 0, every mark 65,535. Cells that now mean nothing stay.
     fn clear(&mut self) {
-        self.parts[Part::Counts as usize].fill(0);
+        for shape in 0..SHAPES {
+            self.put(Part::Shapes, count_cell(shape), 0);
+        }
         for place in 0..PLACES {
-            self.put(Part::Poses, 2 * place, 0);
+            self.put(Part::Places, held_cell(place), 0);
         }
         self.parts[Part::Rows as usize].fill(NO_ROW);
         self.parts[Part::Book as usize].fill(0);
         self.parts[Part::Marks as usize][..MARKS].fill(NO_MARK);
     }
 
+    /// What the cell of a shape's count says, in range or not.
+    pub fn count(&self, shape: usize) -> Number {
+        self.cell(Part::Shapes, count_cell(shape))
+    }
+
     pub fn loaded(&self, shape: usize) -> bool {
-        self.cell(Part::Counts, shape) != 0
+        self.count(shape) != 0
+    }
+
+    fn held(&self, place: usize) -> Number {
+        self.cell(Part::Places, held_cell(place))
+    }
+
+    fn turn(&self, place: usize) -> Number {
+        self.cell(Part::Places, turn_cell(place))
     }
 
     pub fn taken(&self, place: usize) -> bool {
-        self.cell(Part::Poses, 2 * place) != 0
+        self.held(place) != 0
     }
 
     pub fn taken_places(&self) -> Vec<usize> {
         (0..PLACES).filter(|&place| self.taken(place)).collect()
     }
 
+    /// The numbers of a shape whose count is in range.
     fn shape_numbers(&self, shape: usize) -> &[Number] {
-        let count = self.cell(Part::Counts, shape) as usize;
-        let start = shape * CORNERS * 3;
-        &self.part(Part::Corners)[start..start + 3 * count]
+        let end = number_cell(shape, 3 * self.count(shape) as usize);
+        &self.part(Part::Shapes)[number_cell(shape, 0)..end]
     }
 
     /// The corners of a shape, turned and moved.
@@ -207,27 +241,30 @@ impl Desk {
 
     /// The placed corners of a taken place whose numbers are in range.
     pub fn piece(&self, place: usize) -> Vec<Point> {
-        let shape = self.cell(Part::Poses, 2 * place) - 1;
-        let turn = self.cell(Part::Poses, 2 * place + 1);
-        self.placed(shape as usize, turn as usize, self.offset(place))
+        let shape = self.held(place) - 1;
+        self.placed(
+            shape as usize,
+            self.turn(place) as usize,
+            self.offset(place),
+        )
     }
 
     pub fn offset(&self, place: usize) -> Point {
-        [0, 1, 2].map(|axis| self.cell(Part::Offsets, 3 * place + axis))
+        [0, 1, 2].map(|axis| self.cell(Part::Places, offset_cell(place, axis)))
     }
 
     fn shapes_in_range(&self) -> bool {
         (0..SHAPES).all(|shape| {
-            self.cell(Part::Counts, shape) <= CORNERS as Number
+            (0..=CORNERS as Number).contains(&self.count(shape))
                 && !beyond(self.shape_numbers(shape), NUMBER_LIMIT)
         })
     }
 
     fn places_in_range(&self) -> bool {
         self.taken_places().into_iter().all(|place| {
-            let shape = index(self.cell(Part::Poses, 2 * place) - 1, SHAPES);
+            let shape = index(self.held(place) - 1, SHAPES);
             shape.is_some_and(|shape| self.loaded(shape))
-                && self.cell(Part::Poses, 2 * place + 1) < TURNS
+                && (0..TURNS).contains(&self.turn(place))
                 && !beyond(&self.offset(place), NUMBER_LIMIT)
         })
     }
@@ -337,14 +374,15 @@ impl Desk {
             (ALREADY_LOADED, known.is_some_and(|s| self.loaded(s))),
         ])?;
         let shape = known.unwrap_or_default();
-        self.put(Part::Counts, shape, (numbers.len() / 3) as Number);
+        let count = (numbers.len() / 3) as Number;
+        self.put(Part::Shapes, count_cell(shape), count);
         for (k, &number) in numbers.iter().enumerate() {
-            self.put(Part::Corners, shape * CORNERS * 3 + k, number);
+            self.put(Part::Shapes, number_cell(shape, k), number);
         }
         Ok(())
     }
 
-    fn pose_refusals(turn: Number, offset: Point) -> [(Number, bool); 2] {
+    fn placing_refusals(turn: Number, offset: Point) -> [(Number, bool); 2] {
         [
             (TURN_NUMBER, !(0..TURNS).contains(&turn)),
             (OFFSET_RANGE, beyond(&offset, NUMBER_LIMIT)),
@@ -361,7 +399,7 @@ impl Desk {
         self.ordered()?;
         let known = index(place, PLACES);
         let shape_known = index(shape, SHAPES);
-        let [bad_turn, bad_offset] = Desk::pose_refusals(turn, offset);
+        let [bad_turn, bad_offset] = Desk::placing_refusals(turn, offset);
         lowest(&[
             (SHAPE_NUMBER, shape_known.is_none()),
             (NOT_LOADED, shape_known.is_some_and(|s| !self.loaded(s))),
@@ -371,15 +409,15 @@ impl Desk {
             bad_offset,
         ])?;
         let place = known.unwrap_or_default();
-        self.put(Part::Poses, 2 * place, shape + 1);
-        self.pose(place, turn, offset);
+        self.put(Part::Places, held_cell(place), shape + 1);
+        self.put_down(place, turn, offset);
         Ok(())
     }
 
     pub fn shift(&mut self, place: Number, turn: Number, offset: Point) -> Result<Number, Number> {
         self.ordered()?;
         let known = index(place, PLACES);
-        let [bad_turn, bad_offset] = Desk::pose_refusals(turn, offset);
+        let [bad_turn, bad_offset] = Desk::placing_refusals(turn, offset);
         lowest(&[
             (PLACE_NUMBER, known.is_none()),
             (PLACE_EMPTY, known.is_some_and(|p| !self.taken(p))),
@@ -388,7 +426,7 @@ impl Desk {
         ])?;
         let place = known.unwrap_or_default();
         let before = self.piece(place);
-        self.pose(place, turn, offset);
+        self.put_down(place, turn, offset);
         Ok(self.changed_orders(place, &before, &self.piece(place)))
     }
 
@@ -400,7 +438,7 @@ impl Desk {
             (PLACE_EMPTY, known.is_some_and(|p| !self.taken(p))),
         ])?;
         let place = known.unwrap_or_default();
-        self.put(Part::Poses, 2 * place, 0);
+        self.put(Part::Places, held_cell(place), 0);
         for other in 0..PLACES {
             self.put_row(place, other, NO_ROW);
         }
@@ -427,11 +465,11 @@ impl Desk {
         self.put(Part::Rows, low * PLACES + high, verdict);
     }
 
-    /// Stores the pose of a taken place, and works out its rows, the tallies and the marks.
-    fn pose(&mut self, place: usize, turn: Number, offset: Point) {
-        self.put(Part::Poses, 2 * place + 1, turn);
+    /// Stores turn and offset of a taken place, and works out its rows, the tallies and the marks.
+    fn put_down(&mut self, place: usize, turn: Number, offset: Point) {
+        self.put(Part::Places, turn_cell(place), turn);
         for (axis, &number) in offset.iter().enumerate() {
-            self.put(Part::Offsets, 3 * place + axis, number);
+            self.put(Part::Places, offset_cell(place, axis), number);
         }
         let piece = self.piece(place);
         for other in self.taken_places() {

@@ -255,7 +255,7 @@ mod tests {
             b"lists 3 0 0 0 -1",
             b"lists 3 0 0 3 0 0 0",
             b"spoil marks 400 0",
-            b"spoil counts 0 256",
+            b"spoil rows 0 256",
             b"lend 401",
         ];
         for line in lines {

@@ -196,18 +196,22 @@ fn desks_spoiled_one_cell_at_a_time() {
     say(B);
     say("place 0 0 0 0 0 0");
     say("place 9 0 0 64 0 0");
-    let spoiled: [(&str, &str, &str); 20] = [
-        ("counts 0", "33", "8"),
-        ("counts 0", "0", "8"),
-        ("counts 5", "255", "0"),
-        ("corners 0", "65537", "0"),
-        ("offsets 27", "65", "64"),
-        ("poses 0", "2", "1"),
-        ("poses 0", "34", "1"),
-        ("poses 1", "24", "0"),
-        ("poses 4", "1", "0"),
-        ("offsets 0", "-65537", "0"),
-        ("offsets 1", "1", "0"),
+    let spoiled: [(&str, &str, &str); 24] = [
+        ("shapes 0", "33", "8"),
+        ("shapes 0", "-8", "8"),
+        ("shapes 0", "0", "8"),
+        ("shapes 485", "255", "0"),
+        ("shapes 485", "-1", "0"),
+        ("shapes 1", "65537", "0"),
+        ("places 47", "65", "64"),
+        ("places 0", "2", "1"),
+        ("places 0", "-1", "1"),
+        ("places 0", "34", "1"),
+        ("places 1", "24", "0"),
+        ("places 1", "-1", "0"),
+        ("places 10", "1", "0"),
+        ("places 2", "-65537", "0"),
+        ("places 3", "1", "0"),
         ("rows 9", "4", "2"),
         ("rows 9", "255", "2"),
         ("rows 9", "1", "2"),
@@ -226,10 +230,10 @@ fn desks_spoiled_one_cell_at_a_time() {
         assert_eq!(say(&format!("spoil {cell} {good}")), "0");
     }
     for meaningless in [
-        "corners 24 99999",
-        "corners 96 -99999",
-        "poses 3 255",
-        "offsets 3 99999",
+        "shapes 25 99999",
+        "shapes 98 -99999",
+        "places 6 255",
+        "places 7 99999",
     ] {
         assert_eq!(say(&format!("spoil {meaningless}")), "0");
         assert_eq!(say("contacts"), "0 1 0 9 2", "{meaningless}");

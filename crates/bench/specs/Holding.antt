@@ -14,11 +14,13 @@ use lib.Signed.{_<ℤ_, ltZ, leZ, ltZ-yes, leZ-yes, clashℤ}
 use Rattle.space.specs.Verdicts.{VerdictIs}
 use Rattle.turns.specs.Turns.{turnOf, signedAxis, turnedAt, placedAt}
 use Rattle.turns.specs.Table.{and-left, and-right, below, number}
-use Rattle.pieces.specs.Pieces.{Store, countAt, shapeAt, shapeNumber, offsetAt, placedCorner, pieceAt, leastTo, greatestTo, lowAt, highAt}
-use Rattle.pieces.specs.Store.{list-length, list-at, least-same, greatest-same}
+use Rattle.pieces.specs.Pieces.{Store, countAt, shapeAt, shapeNumber, offsetAt, placedCorner, pieceAt, lowAt, highAt}
+use Rattle.pieces.specs.Store.{list-length, list-at}
 use Rattle.pieces.specs.Boxes.{Apart}
-use Rattle.pairs.specs.Right.{RowRight}
-use Rattle.pairs.specs.RowLaws.{row-apart, row-verdict}
+use Rattle.rows_right.specs.Right.{RowRight}
+use Rattle.rows_right.specs.RowLaws.{row-apart, row-verdict}
+use Rattle.runs.specs.Afresh.{lowOf, highOf}
+use Rattle.runs.specs.PieceLaws as pieces
 use Rattle.bench.specs.Table.{placed, Holds}
 
 -- ---- the list of placed corners
@@ -41,13 +43,6 @@ placed-at (a ∷ b ∷ c ∷ shape) x y z (suc (suc zero)) h = refl
 placed-at (a ∷ b ∷ c ∷ shape) x y z (suc (suc (suc k))) h =
     let e : k % 3 ≡ suc (suc (suc k)) % 3 = omega arith in
     placed-at shape x y z k (omega arith) ∙ ap (λ m. getD shape k (pos 0) +ℤ along x y z m) e
-
--- the ends of a list on an axis
-abbrev pub lowOf : List ℤ → ℕ → ℤ
-lowOf A axis = leastTo (length A / 3) (λ i. getD A (3 * i + axis) (pos 0))
-
-abbrev pub highOf : List ℤ → ℕ → ℤ
-highOf A axis = greatestTo (length A / 3) (λ i. getD A (3 * i + axis) (pos 0))
 
 -- ---- the piece of a place
 module _ {d : Store} {p : ℕ} {shape : List ℤ} {x y z : ℕ} (h : Holds d p shape x y z) where
@@ -77,9 +72,6 @@ module _ {d : Store} {p : ℕ} {shape : List ℤ} {x y z : ℕ} (h : Holds d p s
       ∙ ap₂ _+ℤ_ (h .corners (3 * i + axis) (omega arith)) (offset-is axis ha ∙ ap (along x y z) (sym e))
       ∙ sym (placed-at shape x y z (3 * i + axis) (omega arith))
 
-  count-is : countAt d p ≡ length (placed shape x y z) / 3
-  count-is = let n = h .count in let m = placed-length (countAt d p) shape x y z n in omega arith
-
   pub piece-is : pieceAt d p ≡ placed shape x y z
   piece-is =
       let n = h .count in
@@ -93,34 +85,35 @@ module _ {d : Store} {p : ℕ} {shape : List ℤ} {x y z : ℕ} (h : Holds d p s
       ∙ corner-is (k / 3) (k % 3) (omega arith) (omega arith)
       ∙ ap (λ j. getD (placed shape x y z) j (pos 0)) e)
 
-  pub low-is : (axis : ℕ) → axis < 3 → lowAt d axis p ≡ lowOf (placed shape x y z) axis
-  low-is axis l =
-      least-same (countAt d p) (λ i. placedCorner d p i axis) (λ i. getD (placed shape x y z) (3 * i + axis) (pos 0)) (λ i k. corner-is i axis k l)
-      ∙ ap (λ n. leastTo n (λ i. getD (placed shape x y z) (3 * i + axis) (pos 0))) count-is
+  pub low-is : (axis : ℕ) → axis < 3 → lowAt d axis p ≡ lowOf axis (placed shape x y z)
+  low-is axis l = pieces.low-is d p axis l ∙ ap (lowOf axis) piece-is
 
-  pub high-is : (axis : ℕ) → axis < 3 → highAt d axis p ≡ highOf (placed shape x y z) axis
-  high-is axis l =
-      greatest-same (countAt d p) (λ i. placedCorner d p i axis) (λ i. getD (placed shape x y z) (3 * i + axis) (pos 0)) (λ i k. corner-is i axis k l)
-      ∙ ap (λ n. greatestTo n (λ i. getD (placed shape x y z) (3 * i + axis) (pos 0))) count-is
+  pub high-is : (axis : ℕ) → axis < 3 → highAt d axis p ≡ highOf axis (placed shape x y z)
+  high-is axis l = pieces.high-is d p axis l ∙ ap (highOf axis) piece-is
 
 -- ---- the row of two places
 abbrev pub isApart : ℕ → List ℤ → List ℤ → Bool
-isApart axis A B = ltZ (highOf A axis) (lowOf B axis)
+isApart axis A B = ltZ (highOf axis A) (lowOf axis B)
 
 abbrev pub isMixed : List ℤ → List ℤ → Bool
-isMixed A B = below (λ axis. leZ (lowOf B axis) (highOf A axis) && leZ (lowOf A axis) (highOf B axis)) 3
+isMixed A B = below (λ axis. leZ (lowOf axis B) (highOf axis A) && leZ (lowOf axis A) (highOf axis B)) 3
 
 module _ {d : Store} {p q : ℕ} {first second : List ℤ} {x y z u v w : ℕ} (h : Holds d p first x y z) (k : Holds d q second u v w) where
   -- the first is on the low side of the second along this axis
   pub apart-row : (axis : ℕ) → axis < 3 → T (isApart axis (placed first x y z) (placed second u v w)) → RowRight d p q 0
-  apart-row axis l t = row-apart d p q (axis, l, inl (subst (λ a. a <ℤ lowAt d axis q) (sym (high-is h axis l)) (subst (λ b. highOf (placed first x y z) axis <ℤ b) (sym (low-is k axis l)) (ltZ-yes t))))
+  apart-row axis l t =
+      let there = subst (λ b. highOf axis (placed first x y z) <ℤ b) (sym (low-is k axis l)) (ltZ-yes t) in
+      row-apart d p q (axis, l, inl (subst (λ a. a <ℤ lowAt d axis q) (sym (high-is h axis l)) there))
 
   pub not-apart : T (isMixed (placed first x y z) (placed second u v w)) → Apart d p q → ⊥
   not-apart t (axis, l, a) =
-      let m = number (λ axis. leZ (lowOf (placed second u v w) axis) (highOf (placed first x y z) axis) && leZ (lowOf (placed first x y z) axis) (highOf (placed second u v w) axis)) 3 t axis l in
+      let A = placed first x y z in
+      let B = placed second u v w in
+      let both = number (λ axis. leZ (lowOf axis B) (highOf axis A) && leZ (lowOf axis A) (highOf axis B)) 3 t axis l in
+      let reaches = leZ (lowOf axis B) (highOf axis A) in
       ⊎-elim
-      (λ c. clashℤ (subst (λ a. a <ℤ lowOf (placed second u v w) axis) (high-is h axis l) (subst (λ b. highAt d axis p <ℤ b) (low-is k axis l) c)) (leZ-yes (and-left (leZ (lowOf (placed second u v w) axis) (highOf (placed first x y z) axis)) _ m)))
-      (λ c. clashℤ (subst (λ a. a <ℤ lowOf (placed first x y z) axis) (high-is k axis l) (subst (λ b. highAt d axis q <ℤ b) (low-is h axis l) c)) (leZ-yes (and-right (leZ (lowOf (placed second u v w) axis) (highOf (placed first x y z) axis)) _ m)))
+      (λ c. clashℤ (subst (λ e. e <ℤ lowOf axis B) (high-is h axis l) (subst (λ e. highAt d axis p <ℤ e) (low-is k axis l) c)) (leZ-yes (and-left reaches _ both)))
+      (λ c. clashℤ (subst (λ e. e <ℤ lowOf axis A) (high-is k axis l) (subst (λ e. highAt d axis q <ℤ e) (low-is h axis l) c)) (leZ-yes (and-right reaches _ both)))
       a
 
   pub verdict-row : {n : ℕ} → T (isMixed (placed first x y z) (placed second u v w)) → VerdictIs (placed first x y z) (placed second u v w) n → RowRight d p q n

@@ -17,8 +17,8 @@ use Rattle.space.specs.declared.Vec3.{Vec3}
 use Rattle.space.specs.declared.Pair.{Pair}
 use Rattle.space.specs.Vectors.{dot, minus, det, origin, env1}
 use Rattle.space.specs.Verdicts.{Piece, cornerCount, cornerAt, Below, NotAbove, weighted, Fair, Balance, VerdictIs, separate, touching, penetrating}
-use Rattle.portal.specs.Portal.{ZeroSum, zero-sum-dot}
-use Rattle.portal.specs.Exits.{no-balance, frame-origin}
+use Rattle.verdict_portal.specs.Portal.{ZeroSum, zero-sum-dot}
+use Rattle.verdict_portal.specs.Exits.{no-balance, frame-origin}
 use Rattle.turns.specs.Table.{and-left, and-right, below, number}
 
 -- ---- the tests
@@ -132,14 +132,20 @@ module _ {A B : Piece} {d : Vec3} (above : NotAbove d A B) where
   weighs : {k : Pair} → Fair A B k → pos 0 <ℤ k .weight
   weighs f = <ℤ-≤ℤ-trans (pos-suc 0) (f .least)
 
+  level-of : {k l m n : Pair} → Fair A B k → Fair A B l → Fair A B m → Fair A B n
+      → k .weight *ℤ dot d (gap A B k) +ℤ l .weight *ℤ dot d (gap A B l) +ℤ m .weight *ℤ dot d (gap A B m) +ℤ n .weight *ℤ dot d (gap A B n) ≡ pos 0 → dot d (gap A B k) ≡ pos 0
+  level-of {k} {l} {m} {n} fk fl fm fn e =
+      level (k .weight) (l .weight) (m .weight) (n .weight) (dot d (gap A B k)) (dot d (gap A B l)) (dot d (gap A B m)) (dot d (gap A B n))
+      (weighs fk) (weighs fl) (weighs fm) (weighs fn) (gap-behind fk) (gap-behind fl) (gap-behind fm) (gap-behind fn) e
+
   -- the second, third and fourth difference are level with d, so d is the origin where they are independent
   level-gaps : {k l m n : Pair} → Fair A B k → Fair A B l → Fair A B m → Fair A B n → Balance A B (k ∷ l ∷ m ∷ n ∷ []) → (det (gap A B l) (gap A B m) (gap A B n) ≡ pos 0 → ⊥) → d ≡ origin
   level-gaps {k} {l} {m} {n} fk fl fm fn b f =
       let e = zero-sum-dot (zero-sum b) d in
       frame-origin (gap A B l) (gap A B m) (gap A B n) d f
-      (level (l .weight) (k .weight) (m .weight) (n .weight) (dot d (gap A B l)) (dot d (gap A B k)) (dot d (gap A B m)) (dot d (gap A B n)) (weighs fl) (weighs fk) (weighs fm) (weighs fn) (gap-behind fl) (gap-behind fk) (gap-behind fm) (gap-behind fn) (second (k .weight) (l .weight) (m .weight) (n .weight) _ _ _ _ ∙ e))
-      (level (m .weight) (k .weight) (l .weight) (n .weight) (dot d (gap A B m)) (dot d (gap A B k)) (dot d (gap A B l)) (dot d (gap A B n)) (weighs fm) (weighs fk) (weighs fl) (weighs fn) (gap-behind fm) (gap-behind fk) (gap-behind fl) (gap-behind fn) (third (k .weight) (l .weight) (m .weight) (n .weight) _ _ _ _ ∙ e))
-      (level (n .weight) (k .weight) (l .weight) (m .weight) (dot d (gap A B n)) (dot d (gap A B k)) (dot d (gap A B l)) (dot d (gap A B m)) (weighs fn) (weighs fk) (weighs fl) (weighs fm) (gap-behind fn) (gap-behind fk) (gap-behind fl) (gap-behind fm) (fourth (k .weight) (l .weight) (m .weight) (n .weight) _ _ _ _ ∙ e))
+      (level-of fl fk fm fn (second (k .weight) (l .weight) (m .weight) (n .weight) _ _ _ _ ∙ e))
+      (level-of fm fk fl fn (third (k .weight) (l .weight) (m .weight) (n .weight) _ _ _ _ ∙ e))
+      (level-of fn fk fl fm (fourth (k .weight) (l .weight) (m .weight) (n .weight) _ _ _ _ ∙ e))
     where
       second : (w0 w1 w2 w3 t u v w : ℤ) → w1 *ℤ u +ℤ w0 *ℤ t +ℤ w2 *ℤ v +ℤ w3 *ℤ w ≡ w0 *ℤ t +ℤ w1 *ℤ u +ℤ w2 *ℤ v +ℤ w3 *ℤ w
       second w0 w1 w2 w3 t u v w = by-ring (w0 ∷ w1 ∷ w2 ∷ w3 ∷ t ∷ u ∷ v ∷ w ∷ []) (search sides depth 40) refl
@@ -175,6 +181,12 @@ penetrating-by k l m n {A} {B} t =
       refl,
       record {
         meeting = record { pairs = k ∷ l ∷ m ∷ n ∷ []; balance = b };
-        free = λ d w. w .nonzero (level-gaps (w .above) (b .fair k (List·Memᴰ·head refl)) (b .fair l (List·Memᴰ·tail (List·Memᴰ·head refl))) (b .fair m (List·Memᴰ·tail (List·Memᴰ·tail (List·Memᴰ·head refl)))) (b .fair n (List·Memᴰ·tail (List·Memᴰ·tail (List·Memᴰ·tail (List·Memᴰ·head refl))))) b f);
+        free = λ d w.
+            w .nonzero (level-gaps (w .above)
+            (b .fair k (List·Memᴰ·head refl))
+            (b .fair l (List·Memᴰ·tail (List·Memᴰ·head refl)))
+            (b .fair m (List·Memᴰ·tail (List·Memᴰ·tail (List·Memᴰ·head refl))))
+            (b .fair n (List·Memᴰ·tail (List·Memᴰ·tail (List·Memᴰ·tail (List·Memᴰ·head refl)))))
+            b f);
       },
     ))

@@ -1,6 +1,6 @@
 -- The move of the table: what place 2 and the others hold after it, and its count.
 -- The ends of three boxes are those of `marks` Bench, where the count is computed.
-use mathlib.Core.Path.{_≡_, refl, sym, _∙_}
+use mathlib.Core.Path.{_≡_, refl, sym, ap, _∙_}
 use mathlib.Core.List.{[], _∷_}
 use mathlib.Core.Bool.{true, cond}
 use Prim.Native.Nat.{ℕ, zero, suc, _<_}
@@ -8,39 +8,41 @@ use native.Mathlib.Omega.{arith}
 use borrow.Author.Tests.{ltb-true, le-ltb}
 use lib.Dec.{eqb, ltb}
 use lib.ListN.{getD}
-use lib.IntN.{pos, _+ℤ_}
+use lib.IntN.{pos, natAbs, _+ℤ_, _-ℤ_}
 use Rattle.limits.specs.Limits
 use Rattle.marks.specs.Marks.{axisOf, changedMarks, Agree}
 use Rattle.marks.specs.Bench.{boxes, count-is}
-use Rattle.rows.specs.Cells.{by-same}
-use Rattle.pieces.specs.Pieces.{Store, Sized, takenAt, axesOf, lowAt, highAt, leastTo, greatestTo}
+use Rattle.ints.specs.Cases.{by-same}
+use Rattle.pieces.specs.Pieces.{Store, Sized, heldIn, takenAt, axesOf, lowAt, highAt, leastTo, greatestTo}
 use Rattle.pieces.specs.Store.{SameAt, taken-is, empty-is}
-use Rattle.handling.specs.PutLaws.{put-same}
-use Rattle.bench.specs.Table.{B, placed, HoldsThree, moved}
-use Rattle.bench.specs.Holding.{lowOf, highOf, low-is, high-is}
+use Rattle.desk_put.specs.PutLaws.{put-same}
+use Rattle.bench.specs.Table.{B, placed, HoldsThree, newOffset, moved}
+use Rattle.bench.specs.Holding.{low-is, high-is}
+use Rattle.desk.specs.Commands.{movedTo}
+use Rattle.runs.specs.Afresh.{lowOf, highOf}
 use Rattle.runs.specs.CountLaws.{count-same}
+use Rattle.runs.specs.Theorem.{less-more}
 use Rattle.bench.specs.Standing.{holds-same, put-holds}
 
 -- ---- what the places hold after the move
 module _ (d : Store) (size : Sized d) (t : HoldsThree d 0 64 32) where
-  abbrev shape : ℕ
-  shape = getD (d .poses) 4 0
-
   other : (q : ℕ) → (q ≡ 2 → ⊥) → SameAt d (moved d) q
-  other q f = put-same d 2 shape 0 _ (pos 0) (pos 0) q f
+  other q f = put-same d 2 (movedTo (d .places) 2 (pos 0) newOffset) q f
 
   pub move-holds : HoldsThree (moved d) 0 64 128
   move-holds = record {
     place-0 = holds-same (other 0 (λ k. omega arith)) (t .place-0);
     place-1 = holds-same (other 1 (λ k. omega arith)) (t .place-1);
-    place-2 = put-holds size (omega arith) (t .place-2 .taken .holds) (record { count = t .place-2 .count; each = t .place-2 .corners });
-    others = λ p k. by-same p 2 (λ e. omega arith) (λ f. t .others p (record { place = k .place; holds = λ n. k .holds (sym (other p f .shape) ∙ n) }));
+    place-2 =
+        let cell = heldIn (d .places) 2 in
+        put-holds (cell -ℤ pos 1) size (omega arith) (less-more cell) (t .place-2 .taken .holds) (record { count = t .place-2 .count; each = t .place-2 .corners });
+    others = λ p k. by-same p 2 (λ e. omega arith) (λ f. t .others p (record { place = k .place; holds = λ n. k .holds (ap natAbs (sym (other p f .shape)) ∙ n) }));
   }
 
 -- ---- the count
 -- the ends of B at x: x and x + 64 along x, 0 and 64 along y and z
 abbrev EndsOn : ℕ → ℕ → Type 0
-EndsOn x axis = (lowOf (placed B x 0 0) axis ≡ cond (eqb axis 0) (pos x) (pos 0)) × (highOf (placed B x 0 0) axis ≡ cond (eqb axis 0) (pos x) (pos 0) +ℤ pos 64)
+EndsOn x axis = (lowOf axis (placed B x 0 0) ≡ cond (eqb axis 0) (pos x) (pos 0)) × (highOf axis (placed B x 0 0) ≡ cond (eqb axis 0) (pos x) (pos 0) +ℤ pos 64)
 
 abbrev Ends : ℕ → Type 0
 Ends x = (axis : ℕ) → axis < 3 → EndsOn x axis

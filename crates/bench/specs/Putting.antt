@@ -10,20 +10,22 @@ use lib.ListN.{getD, take, drop, replicate, length-append}
 use lib.Seq.{take-at, drop-at, drop-drop, take-all}
 use Rattle.ints.specs.Counts.{countOf}
 use Rattle.limits.specs.Limits
-use Rattle.rows.specs.Rows.{Verdict, Taken, PairOf, Names, Handled}
-use Rattle.tallies.specs.Tallies.{BookInOrder}
-use Rattle.tallies.specs.Counting.{zero-at}
+use Rattle.rows.specs.Rows.{Verdict, PairOf, Names, Handled}
+use Rattle.rows_tally.specs.Tallies.{BookInOrder}
+use Rattle.rows_tally.specs.Counting.{zero-at}
 use Rattle.marks.specs.Marks.{Axes, axisOf, InPlace, InPlaceMarks, RangedMarks, OthersStayMarks, partX, partY, partZ}
 use Rattle.marks.specs.Keys.{keyAt}
 use Rattle.marks.specs.Order.{fine}
 use Rattle.marks.specs.Sorted.{reordered, stays-sorted}
 use Rattle.marks.specs.Cells.{in-place, sorted, stay}
 use Rattle.marks.specs.Buffer.{on-axis}
-use Rattle.pieces.specs.Pieces.{Sized, axesOf}
+use Rattle.pieces.specs.declared.placement.Placement.{Placement}
+use Rattle.pieces.specs.Pieces.{Sized, Taken, axesOf}
 use Rattle.pieces.specs.Store.{ranged}
-use Rattle.state.specs.Desk.{Desk, putAt}
-use Rattle.pairs.specs.Right.{RowRight}
-use Rattle.handling.specs.Handled.{Renewed, MayPut, PutDown, put-piece, put-down}
+use Rattle.desk_state.specs.Desk.{Desk, putAt}
+use Rattle.rows_right.specs.Right.{RowRight}
+use Rattle.desk_put.specs.Handled.{Renewed, MayPut, PutDown}
+use Rattle.desk_put.specs.HandledLaws.{put-piece, put-down}
 
 -- ---- the marks
 abbrev marksAfter : Axes → ℕ → List ℕ → List ℕ
@@ -32,7 +34,8 @@ marksAfter a p marks = reordered (keyAt (axisOf a 0)) p (partX marks) ++ (reorde
 three-parts : {a : Axes} {x y z : List ℕ} → InPlace (axisOf a 0) x → InPlace (axisOf a 1) y → InPlace (axisOf a 2) z → InPlaceMarks a (x ++ (y ++ z))
 three-parts {a} {x} {y} {z} p q r =
     let rest : drop Limits.axisMarks (x ++ (y ++ z)) ≡ y ++ z = drop-at x (y ++ z) Limits.axisMarks (p .long) in
-    let last : drop (2 * Limits.axisMarks) (x ++ (y ++ z)) ≡ z = sym (drop-drop Limits.axisMarks Limits.axisMarks (x ++ (y ++ z))) ∙ ap (drop Limits.axisMarks) rest ∙ drop-at y z Limits.axisMarks (q .long) in
+    let twice : drop (2 * Limits.axisMarks) (x ++ (y ++ z)) ≡ drop Limits.axisMarks (y ++ z) = sym (drop-drop Limits.axisMarks Limits.axisMarks (x ++ (y ++ z))) ∙ ap (drop Limits.axisMarks) rest in
+    let last : drop (2 * Limits.axisMarks) (x ++ (y ++ z)) ≡ z = twice ∙ drop-at y z Limits.axisMarks (q .long) in
     record {
       long = omega (arith, length-append x (y ++ z), length-append y z, p .long, q .long, r .long);
       on-x = subst (InPlace (axisOf a 0)) (sym (take-at x (y ++ z) Limits.axisMarks (p .long))) p;
@@ -45,7 +48,8 @@ part-after : (old new : Axes) (p axis : ℕ) (part : List ℕ) → p < Limits.pl
 part-after old new p axis part h l ro rn o k =
     let a = axisOf old axis in
     let b = axisOf new axis in
-    in-place b (rn axis l) (reordered (keyAt b) p part) (stays-sorted (keyAt a) (keyAt b) part p h (fine a (ro axis l)) (fine b (rn axis l)) (stay a b p (on-axis p axis old new l o)) (sorted a (ro axis l) part k))
+    let was = sorted a (ro axis l) part k in
+    in-place b (rn axis l) (reordered (keyAt b) p part) (stays-sorted (keyAt a) (keyAt b) part p h (fine a (ro axis l)) (fine b (rn axis l)) (stay a b p (on-axis p axis old new l o)) was)
 
 renewed-marks : (new : Axes) (p : ℕ) (marks : List ℕ) → p < Limits.places → RangedMarks new → Renewed new p marks (marksAfter new p marks)
 renewed-marks new p marks h rn = record {
@@ -78,11 +82,15 @@ book-of rows = record { size = refl; counts = counts; rest = rest }
     rest (suc (suc (suc (suc k)))) h = zero-at (Limits.book - Limits.tallies) k
 
 -- ---- the rows: where no place from n on but p is taken, those with the places below n are all
-pub handled-all : {Right : ℕ → ℕ → ℕ → Type 0} {poses : List ℕ} {p n : ℕ} {before after : List ℕ} → n ≤ Limits.places → ((q : ℕ) → Taken poses q → (q ≡ p → ⊥) → q < n)
-    → Handled Right poses p n before after → Handled Right poses p Limits.places before after
-handled-all {poses = poses} {p} {n} l below d = record { size = d .size; right = λ low high o c. d .right low high o (narrow o c); kept = λ low high h k f. d .kept low high h k (λ o c. f o (widen c)) }
+pub handled-all : {Right : ℕ → ℕ → ℕ → Type 0} {places : List ℤ} {p n : ℕ} {before after : List ℕ} → n ≤ Limits.places → ((q : ℕ) → Taken places q → (q ≡ p → ⊥) → q < n)
+    → Handled Right places p n before after → Handled Right places p Limits.places before after
+handled-all {places = places} {p} {n} l below d = record {
+  size = d .size;
+  right = λ low high o c. d .right low high o (narrow o c);
+  kept = λ low high h k f. d .kept low high h k (λ o c. f o (widen c));
+}
   where
-    narrow : {low high : ℕ} → PairOf poses low high → Names p Limits.places low high → Names p n low high
+    narrow : {low high : ℕ} → PairOf places low high → Names p Limits.places low high → Names p n low high
     narrow {low} {high} o (inl (e, h)) = let r = o .rising in inl (e, below high (o .second) (λ k. omega arith))
     narrow {low} {high} o (inr (e, h)) = let r = o .rising in inr (e, below low (o .first) (λ k. omega arith))
 
@@ -91,9 +99,9 @@ handled-all {poses = poses} {p} {n} l below d = record { size = d .size; right =
     widen (inr (e, h)) = inr (e, omega arith)
 
 -- ---- the desk after a piece is put down
-abbrev pub deskAfter : Desk → ℕ → ℕ → ℕ → ℤ → ℤ → ℤ → List ℕ → Desk
-deskAfter d p s t x y z rows = record { store = putAt (d .store) p s t x y z; rows = rows; book = bookOf rows; marks = marksAfter (axesOf (putAt (d .store) p s t x y z)) p (d .marks) }
+abbrev pub deskAfter : Desk → ℕ → Placement → List ℕ → Desk
+deskAfter d p q rows = record { store = putAt (d .store) p q; rows = rows; book = bookOf rows; marks = marksAfter (axesOf (putAt (d .store) p q)) p (d .marks) }
 
-pub can-put : {d : Desk} {p s t : ℕ} {x y z : ℤ} {rows : List ℕ} → Sized (d .store) → MayPut d p s t x y z
-    → Handled (RowRight (putAt (d .store) p s t x y z)) (putAt (d .store) p s t x y z .poses) p Limits.places (d .rows) rows → PutDown d p s t x y z (deskAfter d p s t x y z rows)
-can-put {d} {p} {s} {t} {x} {y} {z} {rows} size m h = put-down size m refl h (book-of rows) (renewed-marks (axesOf (putAt (d .store) p s t x y z)) p (d .marks) (m .place) (ranged (put-piece size m refl .order)))
+pub can-put : {d : Desk} {p : ℕ} {q : Placement} {rows : List ℕ} → Sized (d .store) → MayPut d p q
+    → Handled (RowRight (putAt (d .store) p q)) (putAt (d .store) p q .places) p Limits.places (d .rows) rows → PutDown d p q (deskAfter d p q rows)
+can-put {d} {p} {q} {rows} size m h = put-down size m refl h (book-of rows) (renewed-marks (axesOf (putAt (d .store) p q)) p (d .marks) (m .place) (ranged (put-piece size m refl .order)))

@@ -2,8 +2,8 @@
 -- The verdicts stand in Lists.antt, the listings in Three.antt, the move in Moving.antt, a desk for them in Exhibiting.antt; the answer to a typed text is its reading, computed.
 use native.Mathlib.Decide.{decLe, ℕ-discrete}
 use native.Mathlib.Omega.{arith}
-use Rattle.typed.specs.Decimal.{number}
-use Rattle.typed.specs.DecimalLaws.{both, digit?, digits?, leading}
+use Rattle.text_digits.specs.Decimal.{number}
+use Rattle.text_digits.specs.DecimalLaws.{both, digit?, digits?, leading}
 use Rattle.typed.specs.Reading.{separator?, few?, judged, afterSeparator, afterWhole, reading}
 use Rattle.typed.specs.ReadingLaws.{reading-answers}
 use Rattle.pieces.specs.Pieces.{leastTo, greatestTo}

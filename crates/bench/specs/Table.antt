@@ -8,16 +8,19 @@ use lib.ListN.{length, getD}
 use Rattle.space.specs.Verdicts.{Below, VerdictIs, separate, touching, penetrating}
 use Rattle.typed.specs.TypedLength.{Answers}
 use Rattle.typed.specs.declared.Typed.the-variants.{Steps, Refused}
-use Rattle.walk.specs.Answers as pair
-use Rattle.walk.specs.declared.Answer.{Answer}
+use Rattle.verdict.specs.Answers as pair
+use Rattle.verdict.specs.declared.Answer.{Answer}
 use Rattle.blanks.specs.Blanks.{corner, boxCorners, pieceCorners}
 use Rattle.marks.specs.Marks.{changedMarks}
-use Rattle.rows.specs.Rows.{Taken, PairOf, rowAt, RowsInOrder}
-use Rattle.listing.specs.Contacts.{contacts}
-use Rattle.pieces.specs.Pieces.{Store, Sized, countAt, shapeAt, shapeNumber, turnAt, offsetAt, axesOf}
+use Rattle.rows.specs.Rows.{PairOf, rowAt, RowsInOrder}
+use Rattle.rows_list.specs.Contacts.{contacts}
+use Rattle.pieces.specs.declared.placement.Placement.{Placement}
+use Rattle.pieces.specs.declared.placement.Offset.{Offset}
+use Rattle.pieces.specs.Pieces.{Store, Sized, Taken, countAt, shapeAt, shapeNumber, turnAt, offsetAt, axesOf}
 use Rattle.pieces.specs.Boxes.{Apart}
-use Rattle.state.specs.Desk.{putAt}
-use Rattle.pairs.specs.Right.{RowRight}
+use Rattle.desk_state.specs.Desk.{putAt}
+use Rattle.rows_right.specs.Right.{RowRight}
+use Rattle.desk.specs.Commands.{movedTo}
 
 -- ---- the pieces
 -- "B is the box 64, 64, 64 steps; T the corner piece 64, 64, 64; P a single point at (0,0,0)."
@@ -46,7 +49,7 @@ placed (a ∷ b ∷ c ∷ corners) x y z = corner (a +ℤ pos x) (b +ℤ pos y) 
 
 -- "B at (64,0,0)" on a desk: place p holds a shape with these corners, in turn 0, at the offset x, y, z
 pub record Holds (d : Store) (p : ℕ) (shape : List ℤ) (x y z : ℕ) : Type 0 where
-  pub taken : Taken (d .poses) p
+  pub taken : Taken (d .places) p
   pub count : 3 * countAt d p ≡ length shape
   pub corners : (k : ℕ) → k < length shape → shapeNumber d (shapeAt d p) k ≡ getD shape k (pos 0)
   pub turn : turnAt d p ≡ 0
@@ -69,16 +72,23 @@ pub record HoldsThree (d : Store) (x0 x1 x2 : ℕ) : Type 0 where
   pub place-0 : Holds d 0 B x0 0 0
   pub place-1 : Holds d 1 B x1 0 0
   pub place-2 : Holds d 2 B x2 0 0
-  pub others : (p : ℕ) → Taken (d .poses) p → p < 3
+  pub others : (p : ℕ) → Taken (d .places) p → p < 3
+
+-- a shape in turn 0 at an offset
+abbrev pub upright : ℤ → ℕ → ℕ → ℕ → Placement
+upright shape x y z = record { shape = shape; turn = pos 0; x = pos x; y = pos y; z = pos z }
 
 -- "Move place 2 to x = 128": it keeps its shape and its turn
+abbrev pub newOffset : Offset
+newOffset = record { x = pos 128; y = pos 0; z = pos 0 }
+
 abbrev pub moved : Store → Store
-moved d = putAt d 2 (getD (d .poses) 4 0) 0 (pos 128) (pos 0) (pos 0)
+moved d = putAt d 2 (movedTo (d .places) 2 (pos 0) newOffset)
 
 -- the rows are those of a desk in order, and each is the right one
 pub record RightRows (d : Store) (rows : List ℕ) : Type 0 where
-  pub order : RowsInOrder (d .poses) rows
-  pub right : (low high : ℕ) → PairOf (d .poses) low high → RowRight d low high (rowAt rows low high)
+  pub order : RowsInOrder (d .places) rows
+  pub right : (low high : ℕ) → PairOf (d .places) low high → RowRight d low high (rowAt rows low high)
 
 -- ---- typed text: the bytes of a digit, a comma and a point
 abbrev pub digit : ℕ → ℕ

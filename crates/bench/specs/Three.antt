@@ -6,13 +6,13 @@ use Prim.Native.Nat.{ℕ, zero, suc, _<_}
 use native.Mathlib.Omega.{arith}
 use lib.ListN.{length, set, replicate, length-set, length-replicate, getD-replicate}
 use Rattle.limits.specs.Limits
-use Rattle.rows.specs.Rows.{Taken, PairOf, cell, rowAt}
-use Rattle.listing.specs.Contacts.{listed, contactsFrom, contacts}
+use Rattle.rows.specs.Rows.{PairOf, cell, rowAt}
+use Rattle.rows_list.specs.Contacts.{listed, contactsFrom, contacts}
 use Rattle.rows.specs.Changes.{rows-once, row-same, row-other}
 use Rattle.rows.specs.Handling.{by-pair}
-use Rattle.pieces.specs.Pieces.{Store, leastTo, greatestTo}
-use Rattle.pairs.specs.Right.{RowRight}
-use Rattle.pairs.specs.RowLaws.{right-once}
+use Rattle.pieces.specs.Pieces.{Store, Taken, leastTo, greatestTo}
+use Rattle.rows_right.specs.Right.{RowRight}
+use Rattle.rows_right.specs.RowLaws.{right-once}
 use Rattle.bench.specs.Table.{HoldsThree, RightRows}
 use Rattle.bench.specs.Holding.{apart-row, verdict-row}
 use Rattle.bench.specs.Lists as lists
@@ -71,9 +71,9 @@ by-three C (suc zero) (suc (suc zero)) l h a b c = c
 by-three C (suc zero) (suc (suc (suc high))) l h a b c = absurd (omega arith)
 by-three C (suc (suc low)) high l h a b c = absurd (omega arith)
 
-three-pairs : {d : Store} {x0 x1 x2 : ℕ} → HoldsThree d x0 x1 x2 → (low high : ℕ) → low < high → high < 3 → PairOf (d .poses) low high
+three-pairs : {d : Store} {x0 x1 x2 : ℕ} → HoldsThree d x0 x1 x2 → (low high : ℕ) → low < high → high < 3 → PairOf (d .places) low high
 three-pairs {d} t low high l k =
-    by-three (PairOf (d .poses)) low high l k
+    by-three (PairOf (d .places)) low high l k
     (record { rising = omega arith; first = t .place-0 .taken; second = t .place-1 .taken })
     (record { rising = omega arith; first = t .place-0 .taken; second = t .place-2 .taken })
     (record { rising = omega arith; first = t .place-1 .taken; second = t .place-2 .taken })
@@ -86,19 +86,19 @@ pub record Right (d : Store) (a b c : ℕ) : Type 0 where
 
 module _ {d : Store} {rows : List ℕ} {x0 x1 x2 : ℕ} (t : HoldsThree d x0 x1 x2) (r : RightRows d rows) where
   rows-are : {a b c : ℕ} → Right d a b c → rows ≡ threeRows a b c
-  rows-are {a} {b} {c} k = rows-once (r .order .size) (size-3 a b c) (λ low high hl hh. by-pair (d .poses) low high hl hh (there low high) (none low high hl hh))
+  rows-are {a} {b} {c} k = rows-once (r .order .size) (size-3 a b c) (λ low high hl hh. by-pair (d .places) low high hl hh (there low high) (none low high hl hh))
     where
-      right : (low high : ℕ) → low < high → Taken (d .poses) low → Taken (d .poses) high → RowRight d low high (rowAt rows low high)
+      right : (low high : ℕ) → low < high → Taken (d .places) low → Taken (d .places) high → RowRight d low high (rowAt rows low high)
       right low high l k h = r .right low high (record { rising = l; first = k; second = h })
 
-      there : (low high : ℕ) → PairOf (d .poses) low high → rowAt rows low high ≡ rowAt (threeRows a b c) low high
+      there : (low high : ℕ) → PairOf (d .places) low high → rowAt rows low high ≡ rowAt (threeRows a b c) low high
       there low high p =
           by-three (λ i j. rowAt rows i j ≡ rowAt (threeRows a b c) i j) low high (p .rising) (t .others high (p .second))
           (right-once d 0 1 (right 0 1 (omega arith) (t .place-0 .taken) (t .place-1 .taken)) (k .first) ∙ sym (row-0-1 a b c))
           (right-once d 0 2 (right 0 2 (omega arith) (t .place-0 .taken) (t .place-2 .taken)) (k .second) ∙ sym (row-0-2 a b c))
           (right-once d 1 2 (right 1 2 (omega arith) (t .place-1 .taken) (t .place-2 .taken)) (k .third) ∙ sym (row-1-2 a b c))
 
-      none : (low high : ℕ) → low < Limits.places → high < Limits.places → (PairOf (d .poses) low high → ⊥) → rowAt rows low high ≡ rowAt (threeRows a b c) low high
+      none : (low high : ℕ) → low < Limits.places → high < Limits.places → (PairOf (d .places) low high → ⊥) → rowAt rows low high ≡ rowAt (threeRows a b c) low high
       none low high hl hh f =
           r .order .others low high hl hh f
           ∙ sym (row-none a b c low high hl hh (λ l k. f (three-pairs t low high l k)))

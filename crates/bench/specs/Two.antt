@@ -13,32 +13,40 @@ use Rattle.limits.specs.Lowest.{Lowest}
 use Rattle.space.specs.Lists.{LengthFits, InReach, Placed}
 use Rattle.space.specs.Verdicts.{VerdictIs}
 use Rattle.space.specs.Exclusion.{verdict-once}
-use Rattle.walk.specs.Answers.{Answers, refusals}
-use Rattle.walk.specs.declared.Answer.{Answer}
+use Rattle.verdict.specs.Answers.{Answers, refusals}
+use Rattle.verdict.specs.declared.Answer.{Answer}
 use Rattle.turns.specs.Table.{and-left, and-right, below, number}
 use Rattle.bench.specs.Table.{placed, Between}
 use Rattle.bench.specs.Holding.{placed-length, isApart, isMixed, apart-row, verdict-row}
-use Rattle.bench.specs.Standing.{two-stand}
+use Rattle.bench.specs.Standing.{Loadable, two-stand}
 
--- ---- what may be asked about: 1 to 32 corners, and no number beyond ±131,072
-abbrev isShape : List ℤ → Bool
-isShape s = (leb 1 (length s / 3) && leb (length s / 3) Limits.corners) && eqb (length s) (3 * (length s / 3))
-
-fits-by : (s : List ℤ) → T (isShape s) → LengthFits (length s)
-fits-by s t =
-    let size = and-left (leb 1 (length s / 3) && leb (length s / 3) Limits.corners) _ t in
-    record {
-      count = length s / 3;
-      least = leb→le 1 (length s / 3) (and-left (leb 1 (length s / 3)) _ size);
-      most = leb→le (length s / 3) Limits.corners (and-right (leb 1 (length s / 3)) _ size);
-      is = eqb→eq (length s) (3 * (length s / 3)) (and-right (leb 1 (length s / 3) && leb (length s / 3) Limits.corners) _ t);
-    }
-
+-- ---- what may be asked about: 1 to 32 corners, and no number of a placed one beyond ±131,072
 abbrev pub isNear : ℕ → List ℤ → Bool
 isNear reach s = below (λ k. leb (natAbs (getD s k (pos 0))) reach) (length s)
 
 pub near-by : (reach : ℕ) (s : List ℤ) → T (isNear reach s) → InReach reach s
 near-by reach s t = record { all = λ k l. record { abs = leb→le _ reach (number (λ k. leb (natAbs (getD s k (pos 0))) reach) (length s) t k l) } }
+
+-- and what may be loaded: no number of a shape beyond ±65,536
+abbrev isLong : List ℤ → Bool
+isLong s = (leb 1 (length s / 3) && leb (length s / 3) Limits.corners) && eqb (length s) (3 * (length s / 3))
+
+abbrev isShape : List ℤ → Bool
+isShape s = isLong s && isNear Limits.shapeReach s
+
+shape-by : (s : List ℤ) → T (isShape s) → Loadable s
+shape-by s t =
+    let long = and-left (isLong s) _ t in
+    let size = and-left (leb 1 (length s / 3) && leb (length s / 3) Limits.corners) _ long in
+    record {
+      fits = record {
+        count = length s / 3;
+        least = leb→le 1 (length s / 3) (and-left (leb 1 (length s / 3)) _ size);
+        most = leb→le (length s / 3) Limits.corners (and-right (leb 1 (length s / 3)) _ size);
+        is = eqb→eq (length s) (3 * (length s / 3)) (and-right (leb 1 (length s / 3) && leb (length s / 3) Limits.corners) _ long);
+      };
+      near = near-by Limits.shapeReach s (and-right (isLong s) _ t);
+    }
 
 placed-by : (shape : List ℤ) (x y z : ℕ) → LengthFits (length shape) → T (isNear Limits.placedReach (placed shape x y z)) → Placed (placed shape x y z)
 placed-by shape x y z f t = record { fits = subst LengthFits (sym (placed-length (f .count) shape x y z (sym (f .is)))) f; near = near-by Limits.placedReach (placed shape x y z) t }
@@ -63,17 +71,17 @@ pub record Case (first second : List ℤ) (x y z v : ℕ) : Type 0 where
   pub right : VerdictIs (placed first 0 0 0) (placed second x y z) v
 
 module _ {first second : List ℤ} {x y z v : ℕ} (c : Case first second x y z v) where
-  shapes : LengthFits (length first) × LengthFits (length second)
+  shapes : Loadable first × Loadable second
   shapes =
       let t = and-left (isShape first && isShape second) _ (c .test) in
-      (fits-by first (and-left (isShape first) _ t), fits-by second (and-right (isShape first) _ t))
+      (shape-by first (and-left (isShape first) _ t), shape-by second (and-right (isShape first) _ t))
 
   answers : (r : Answer) → Answers (placed first 0 0 0) (placed second x y z) r → (r .number ≡ 0) × (r .verdict ≡ v)
   answers =
       let t = and-right (isShape first && isShape second) _ (c .test) in
       answered
-      (placed-by first 0 0 0 (shapes .0) (and-left (isNear Limits.placedReach (placed first 0 0 0)) _ t))
-      (placed-by second x y z (shapes .1) (and-right (isNear Limits.placedReach (placed first 0 0 0)) _ t))
+      (placed-by first 0 0 0 (shapes .0 .fits) (and-left (isNear Limits.placedReach (placed first 0 0 0)) _ t))
+      (placed-by second x y z (shapes .1 .fits) (and-right (isNear Limits.placedReach (placed first 0 0 0)) _ t))
       (c .right)
 
   -- boxes that are not apart: the row is the verdict

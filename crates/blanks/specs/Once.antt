@@ -7,7 +7,8 @@ use mathlib.Core.List.{List, _∷_, _++_}
 use lib.IntN.{ℤ}
 use lib.ListN.{length, drop}
 use Rattle.limits.specs.Limits
-use Rattle.limits.specs.Lowest.{_when_, lowest-once}
+use Rattle.limits.specs.Lowest.{_when_}
+use Rattle.limits.specs.LowestLaws.{lowest-once}
 use Rattle.scans.specs.Once.{zero-or, steps-once}
 use Rattle.scans.specs.declared.Point.{Point}
 use Rattle.blanks.specs.Blanks.{sizeRefusals, Filled, WrittenAs}
@@ -16,7 +17,8 @@ use Rattle.blanks.specs.declared.Written.{Written}
 module _ {p : Point} {n : ℕ} {corners : ℤ → ℤ → ℤ → List ℤ} {before after last : List ℤ} where
   filled-once : {count more : ℕ} → Filled p n corners before after count → Filled p n corners before last more → (after ≡ last) × (count ≡ more)
   filled-once f g = (
-    f .room ∙ ap (λ (l : List ℤ). l ++ drop n before) (λ i. corners (steps-once (p .x) (f .wide) (g .wide) i) (steps-once (p .y) (f .deep) (g .deep) i) (steps-once (p .z) (f .high) (g .high) i)) ∙ sym (g .room),
+    f .room ∙ ap (λ (l : List ℤ). l ++ drop n before)
+        (λ i. corners (steps-once (p .x) (f .wide) (g .wide) i) (steps-once (p .y) (f .deep) (g .deep) i) (steps-once (p .z) (f .high) (g .high) i)) ∙ sym (g .room),
     f .counted ∙ sym (g .counted),
   )
 

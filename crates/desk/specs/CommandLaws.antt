@@ -3,33 +3,38 @@
 use mathlib.Core.Path.{_≡_, refl, sym, ap, _∙_, subst}
 use mathlib.Core.List.{List}
 use mathlib.Core.Logic.{inl, inr}
-use Prim.Native.Nat.{ℕ, _*_, _<_}
+use Prim.Native.Nat.{ℕ, _+_, _*_, _<_}
 use native.Mathlib.Omega.{arith}
 use lib.IntN.{ℤ, pos, natAbs}
 use lib.ListN.{replicate}
 use Rattle.limits.specs.Limits
-use Rattle.limits.specs.Lowest.{Refusal, Lowest, lowest-once}
+use Rattle.limits.specs.Lowest.{Refusal, Lowest}
+use Rattle.limits.specs.LowestLaws.{lowest-once}
+use Rattle.limits.specs.Numbered.{Numbered}
 use Rattle.rows.specs.Rows.{Handled}
-use Rattle.listing.specs.Contacts.{Lists}
-use Rattle.tallies.specs.Tallies.{BookInOrder}
-use Rattle.tallies.specs.Counting.{zero-at, book-once}
+use Rattle.rows_list.specs.Contacts.{Lists}
+use Rattle.rows_tally.specs.Tallies.{BookInOrder}
+use Rattle.rows_tally.specs.Counting.{filled-at, book-once, book-started}
 use Rattle.rows.specs.Changes.{cleared-once}
 use Rattle.rows.specs.Handling.{rows-started, handled-once}
-use Rattle.tallies.specs.Counting.{book-started}
-use Rattle.listing.specs.declared.Listed.{Listed}
-use Rattle.listing.specs.declared.Listed.the-variants.{Rows, Refused}
+use Rattle.rows_list.specs.declared.Listed.{Listed}
+use Rattle.rows_list.specs.declared.Listed.the-variants.{Rows, Refused}
 use Rattle.marks.specs.Marks.{InPlaceMarks, changedMarks}
 use Rattle.marks.specs.Buffer.{none-in-place-marks, one-buffer}
-use Rattle.pieces.specs.Pieces.{Store, axesOf, pieceAt}
+use Rattle.pieces.specs.declared.placement.Placement.{Placement}
+use Rattle.pieces.specs.declared.placement.Offset.{Offset}
+use Rattle.pieces.specs.Pieces.{Store, countIn, heldIn, axesOf, pieceAt}
 use Rattle.pieces.specs.Store.{ranged}
-use Rattle.walk.specs.Answers.{nothing, Carries}
-use Rattle.walk.specs.AnswerLaws.{OneAnswer, one-answer}
-use Rattle.walk.specs.declared.Answer.{Answer}
-use Rattle.handling.specs.Handled.{Emptied, PutDown}
-use Rattle.pairs.specs.RowLaws.{carries-at, right-once}
-use Rattle.state.specs.Desk.{Desk, deskOf, InOrder}
-use Rattle.pairs.specs.Right.{RowRight}
-use Rattle.desk.specs.Commands.{Commanded, freshDesk, startRefusals, Started, loadRefusals, Loads, placeRefusals, Places, moveRefusals, MovedBy, Moves, removeRefusals, Removed, contactRefusals, ListsContacts, pairRefusals, Pairs}
+use Rattle.verdict.specs.Answers.{nothing, Carries}
+use Rattle.verdict.specs.AnswerLaws.{OneAnswer, one-answer}
+use Rattle.verdict.specs.declared.Answer.{Answer}
+use Rattle.desk_put.specs.Handled.{Emptied, PutDown}
+use Rattle.rows_right.specs.RowLaws.{carries-at, right-once}
+use Rattle.desk_state.specs.Desk.{Desk, deskOf, InOrder}
+use Rattle.rows_right.specs.Right.{RowRight}
+use Rattle.desk.specs.Commands.{Commanded, freshDesk, startRefusals, Started, loadRefusals, Loads, placeRefusals, Places, moveRefusals, MovedBy, Moves, removeRefusals, Removed, contactRefusals, ListsContacts, pairRefusals, Pairs, Does}
+use Rattle.desk.specs.declared.Command.{Command}
+use Rattle.desk.specs.declared.Command.the-variants.{Start, Load, Place, Move, Remove}
 use Rattle.desk.specs.declared.Outcome.{Outcome}
 use Rattle.desk.specs.declared.Outcome.the-variants as outcome
 
@@ -49,20 +54,29 @@ module _ (l : List Refusal) {A B : ℕ → Type 0} {d a b : Desk} (one : (m n : 
   commanded-once (outcome.Refused m) (outcome.Refused n) p q = (p .kept (p .named) ∙ sym (q .kept (q .named)), ap outcome.Refused (lowest-once l {m = m} {n = n} (p .refusal) (q .refusal)))
 
 -- ---- starting afresh
-pub fresh-is : {counts poses rows book marks : List ℕ} {corners offsets : List ℤ} → counts ≡ replicate Limits.shapes 0 → corners ≡ replicate Limits.cornerNumbers (pos 0) → poses ≡ replicate Limits.poseNumbers 0
-    → offsets ≡ replicate Limits.offsetNumbers (pos 0) → rows ≡ replicate Limits.rows Limits.noRow → book ≡ replicate Limits.book 0 → marks ≡ replicate Limits.marks Limits.noMark
-    → deskOf counts corners poses offsets rows book marks ≡ freshDesk
-fresh-is a b c d e f g = rw (a, b, c, d, e, f, g)
+pub fresh-is : {shapes places : List ℤ} {rows book marks : List ℕ} → shapes ≡ replicate Limits.shapesLength (pos 0) → places ≡ replicate Limits.placesLength (pos 0)
+    → rows ≡ replicate Limits.rows Limits.noRow → book ≡ replicate Limits.book 0 → marks ≡ replicate Limits.marks Limits.noMark → deskOf shapes places rows book marks ≡ freshDesk
+fresh-is a b c d e = rw (a, b, c, d, e)
+
+-- no shape is loaded and no place is taken
+no-shape : (s : ℕ) → countIn (freshDesk .store .shapes) s ≡ pos 0
+no-shape s = filled-at {A = ℤ} (pos 0) Limits.shapesLength (s * Limits.shapeCells)
+
+no-place : (p : ℕ) → natAbs (heldIn (freshDesk .store .places) p) ≡ 0
+no-place p = ap natAbs (filled-at {A = ℤ} (pos 0) Limits.placesLength (Limits.placeCells * p))
 
 -- "Starting afresh gives a desk in order"
 pub fresh-order : InOrder freshDesk
 fresh-order = record {
   pieces = record {
-    shapes = record { few = λ s h. omega (arith, zero-at Limits.shapes s); near = λ s k h l. absurd (omega (arith, zero-at Limits.shapes s)) };
-    places = record { all = λ p t. absurd (t .holds (zero-at Limits.poseNumbers (2 * p))) };
+    shapes = record {
+      few = λ s h. subst (Numbered (Limits.corners + 1)) (sym (no-shape s)) (record { natural = refl; below = omega arith });
+      near = λ s k h l. absurd (let e = ap natAbs (no-shape s) in omega arith);
+    };
+    places = record { all = λ p t. absurd (t .holds (no-place p)) };
   };
-  marks = none-in-place-marks (axesOf (freshDesk .store)) (λ p. rw (zero-at Limits.poseNumbers (2 * p)));
-  rows = rows-started (λ p t. t .holds (zero-at Limits.poseNumbers (2 * p)));
+  marks = none-in-place-marks (axesOf (freshDesk .store)) (λ p. rw (no-place p));
+  rows = rows-started (λ p t. t .holds (no-place p));
   book = book-started;
 }
 
@@ -81,19 +95,19 @@ desk-once {a} {b} p q s r =
     let k = book-once (subst (λ (l : List ℕ). BookInOrder l (a .book)) r (p .book)) (q .book) in
     rw (s, r, m, k)
 
-put-once : {d a b : Desk} {p s t : ℕ} {x y z : ℤ} → PutDown d p s t x y z a → PutDown d p s t x y z b → a ≡ b
+put-once : {d a b : Desk} {p : ℕ} {q : Placement} → PutDown d p q a → PutDown d p q b → a ≡ b
 put-once {d} {a} {b} {p} e f =
     let same = e .store ∙ sym (f .store) in
-    let rows = subst (λ (k : Store). Handled (RowRight k) (k .poses) p Limits.places (d .rows) (a .rows)) same (e .rows) in
+    let rows = subst (λ (k : Store). Handled (RowRight k) (k .places) p Limits.places (d .rows) (a .rows)) same (e .rows) in
     desk-once (e .order) (f .order) same (handled-once (λ low high v w. right-once (b .store) low high) (sym (e .rows .size) ∙ e .order .rows .size) rows (f .rows))
 
-pub placed-once : {d a b : Desk} {place shape turn x y z : ℤ} (q r : Outcome) → Places d place shape turn x y z a q → Places d place shape turn x y z b r → (a ≡ b) × (q ≡ r)
-placed-once {d} {place = place} {shape} {turn} {x} {y} {z} = commanded-once (placeRefusals d place shape turn x y z) (λ m n p q. (put-once (p .0) (q .0), p .1 ∙ sym (q .1)))
+pub placed-once : {d a b : Desk} {place : ℤ} {o : Placement} (q r : Outcome) → Places d place o a q → Places d place o b r → (a ≡ b) × (q ≡ r)
+placed-once {d} {place = place} {o} = commanded-once (placeRefusals d place o) (λ m n p q. (put-once (p .0) (q .0), p .1 ∙ sym (q .1)))
 
-pub moved-once : {d a b : Desk} {place turn x y z : ℤ} (q r : Outcome) → Moves d place turn x y z a q → Moves d place turn x y z b r → (a ≡ b) × (q ≡ r)
-moved-once {d} {a} {b} {place} {turn} {x} {y} {z} = commanded-once (moveRefusals d place turn x y z) one
+pub moved-once : {d a b : Desk} {place turn : ℤ} {o : Offset} (q r : Outcome) → Moves d place turn o a q → Moves d place turn o b r → (a ≡ b) × (q ≡ r)
+moved-once {d} {a} {b} {place} {turn} {o} = commanded-once (moveRefusals d place turn o) one
   where
-    one : (m n : ℕ) → MovedBy d (natAbs place) (natAbs turn) x y z a m → MovedBy d (natAbs place) (natAbs turn) x y z b n → (a ≡ b) × (m ≡ n)
+    one : (m n : ℕ) → MovedBy d (natAbs place) turn o a m → MovedBy d (natAbs place) turn o b n → (a ≡ b) × (m ≡ n)
     one m n p q =
         let same = put-once (p .put) (q .put) in
         (same, p .counted ∙ ap (λ (k : Desk). changedMarks (axesOf (d .store)) (axesOf (k .store)) (natAbs place)) same ∙ sym (q .counted))
@@ -103,6 +117,14 @@ emptied-once e f = desk-once (e .order) (f .order) (e .store ∙ sym (f .store))
 
 pub removed-once : {d a b : Desk} {place : ℤ} (q r : Outcome) → Removed d place a q → Removed d place b r → (a ≡ b) × (q ≡ r)
 removed-once {d} {place = place} = commanded-once (removeRefusals d place) (λ m n p q. (emptied-once (p .0) (q .0), p .1 ∙ sym (q .1)))
+
+-- ---- one command: its desk and its answer are one
+pub does-once : (c : Command) (numbers : List ℤ) (d a b : Desk) (q r : Outcome) → Does c numbers d a q → Does c numbers d b r → (a ≡ b) × (q ≡ r)
+does-once Start numbers d a b q r = started-once q r
+does-once (Load shape) numbers d a b q r = loaded-once {numbers = numbers} q r
+does-once (Place place o) numbers d a b q r = placed-once q r
+does-once (Move place turn o) numbers d a b q r = moved-once q r
+does-once (Remove place) numbers d a b q r = removed-once q r
 
 -- ---- the listing
 pub contacts-refused : {d : Desk} {room : List ℕ} → (InOrder d → ⊥) → ListsContacts d room room (Refused Limits.disorder)
@@ -128,7 +150,8 @@ contacts-once {d} {room} (Refused m) (Refused n) p q = (p .kept (p .named) ∙ s
 pub pair-refuses : {d : Desk} {first second : ℤ} {n : ℕ} {r : Answer} → Lowest (pairRefusals d first second) n → 0 < n → r ≡ nothing n → Pairs d first second r
 pair-refuses {d} {first} {second} {n} h k e = subst (Pairs d first second) (sym e) (record { refusal = h; zeros = λ _. refl; carries = λ z. absurd (omega arith) })
 
-pub pair-answers : {d : Desk} {first second : ℤ} {i j : ℕ} {r : Answer} → Lowest (pairRefusals d first second) 0 → i ≡ natAbs first → j ≡ natAbs second → (r .number ≡ 0) × Carries (pieceAt (d .store) i) (pieceAt (d .store) j) r → Pairs d first second r
+pub pair-answers : {d : Desk} {first second : ℤ} {i j : ℕ} {r : Answer} → Lowest (pairRefusals d first second) 0 → i ≡ natAbs first → j ≡ natAbs second
+    → (r .number ≡ 0) × Carries (pieceAt (d .store) i) (pieceAt (d .store) j) r → Pairs d first second r
 pair-answers {d} {first} {second} {r = r} h ei ej c = record {
   refusal = subst (Lowest (pairRefusals d first second)) (sym (c .0)) h;
   zeros = λ f. absurd (f (c .0));

@@ -1,24 +1,29 @@
 -- WHAT THE DESK CAN BE TOLD, as document 01 has it: one record for each command and question, between what was lent at entry, at exit, and the answer.
--- Refused: the lowest number that applies, and nothing that was lent has changed. What several commands refuse stands in crate `numbers`, Parts.antt; the laws in CommandLaws.antt.
+-- Refused: the lowest number that applies, and nothing that was lent has changed. What several commands refuse stands in crate `desk_refusals`, Parts.antt; the laws in CommandLaws.antt.
 use mathlib.Core.Path.{_≡_}
 use mathlib.Core.List.{List, [], _∷_, _++_}
-use Prim.Native.Nat.{ℕ, _+_, _-_, _*_, _≤_, _<_}
-use lib.IntN.{ℤ, pos, natAbs}
-use lib.ListN.{length, getD, drop, replicate}
+use Prim.Native.Nat.{ℕ, _-_, _*_, _≤_, _<_}
+use lib.IntN.{ℤ, pos, natAbs, _-ℤ_}
+use lib.ListN.{length, drop, replicate}
 use Rattle.limits.specs.Limits
 use Rattle.limits.specs.Lowest.{Refusal, Lowest, _when_}
-use Rattle.listing.specs.Contacts as listing
-use Rattle.listing.specs.declared.Listed.{Listed}
+use Rattle.rows_list.specs.Contacts as listing
+use Rattle.rows_list.specs.declared.Listed.{Listed}
 use Rattle.space.specs.Lists.{LengthFits, InReach}
 use Rattle.marks.specs.Marks.{changedMarks}
-use Rattle.pieces.specs.Pieces.{Store, Loaded, axesOf, pieceAt}
-use Rattle.walk.specs.Answers.{nothing, Carries}
-use Rattle.walk.specs.declared.Answer.{Answer}
-use Rattle.state.specs.Desk.{Desk, deskOf, InOrder, loadedAt}
-use Rattle.handling.specs.Handled.{PutDown, Emptied}
-use Rattle.numbers.specs.Parts.{Numbered, shapeRefusals, emptyRefusals, takenRefusals, placementRefusals, twoRefusals}
+use Rattle.pieces.specs.declared.placement.Placement.{Placement}
+use Rattle.pieces.specs.declared.placement.Offset.{Offset}
+use Rattle.pieces.specs.Pieces.{Store, Loaded, heldIn, axesOf, pieceAt}
+use Rattle.verdict.specs.Answers.{nothing, Carries}
+use Rattle.verdict.specs.declared.Answer.{Answer}
+use Rattle.desk_state.specs.Desk.{Desk, deskOf, InOrder, loadedAt}
+use Rattle.desk_put.specs.Handled.{PutDown, Emptied}
+use Rattle.limits.specs.Numbered.{Numbered}
+use Rattle.desk_refusals.specs.Parts.{shapeRefusals, emptyRefusals, takenRefusals, placementRefusals, twoRefusals}
 use Rattle.desk.specs.declared.Outcome.{Outcome}
 use Rattle.desk.specs.declared.Outcome.the-variants.{Done, Refused}
+use Rattle.desk.specs.declared.Command.{Command}
+use Rattle.desk.specs.declared.Command.the-variants.{Start, Load, Place, Move, Remove}
 
 -- document 01's number of an answer, 0 where it is done, and its count, zero on a refusal
 abbrev pub numberOf : Outcome → ℕ
@@ -46,10 +51,8 @@ pub record Commanded (l : List Refusal) (Accepted : ℕ → Type 0) (before afte
 abbrev pub freshDesk : Desk
 freshDesk =
     deskOf
-    (replicate Limits.shapes 0)
-    (replicate Limits.cornerNumbers (pos 0))
-    (replicate Limits.poseNumbers 0)
-    (replicate Limits.offsetNumbers (pos 0))
+    (replicate Limits.shapesLength (pos 0))
+    (replicate Limits.placesLength (pos 0))
     (replicate Limits.rows Limits.noRow)
     (replicate Limits.book 0)
     (replicate Limits.marks Limits.noMark)
@@ -77,33 +80,33 @@ abbrev pub Loads : Desk → ℤ → List ℤ → Desk → Outcome → Type 0
 Loads before shape numbers after r = Commanded (loadRefusals before shape numbers) (λ count. (after ≡ loadedAt before (natAbs shape) numbers) × InOrder after × (count ≡ 0)) before after r
 
 -- ---- "Place at an empty place": 1, 2, 6, 7, 8, 10, 11
-abbrev pub placeRefusals : Desk → ℤ → ℤ → ℤ → ℤ → ℤ → ℤ → List Refusal
-placeRefusals d place shape turn x y z = Limits.disorder when (InOrder d → ⊥) ∷ (shapeRefusals (d .store) shape ++ (emptyRefusals (d .store .poses) place ++ placementRefusals turn x y z))
+abbrev pub placeRefusals : Desk → ℤ → Placement → List Refusal
+placeRefusals d place q =
+    Limits.disorder when (InOrder d → ⊥) ∷ (shapeRefusals (d .store) (q .shape) ++ (emptyRefusals (d .store .places) place ++ placementRefusals (q .turn) (q .x) (q .y) (q .z)))
 
-abbrev pub Places : Desk → ℤ → ℤ → ℤ → ℤ → ℤ → ℤ → Desk → Outcome → Type 0
-Places before place shape turn x y z after r =
-    Commanded (placeRefusals before place shape turn x y z) (λ count. PutDown before (natAbs place) (natAbs shape + 1) (natAbs turn) x y z after × (count ≡ 0)) before after r
+abbrev pub Places : Desk → ℤ → Placement → Desk → Outcome → Type 0
+Places before place q after r = Commanded (placeRefusals before place q) (λ count. PutDown before (natAbs place) q after × (count ≡ 0)) before after r
 
 -- ---- "Move a taken place to a new turn and offset": 1, 7, 9, 10, 11
-abbrev pub moveRefusals : Desk → ℤ → ℤ → ℤ → ℤ → ℤ → List Refusal
-moveRefusals d place turn x y z = Limits.disorder when (InOrder d → ⊥) ∷ (takenRefusals (d .store .poses) place ++ placementRefusals turn x y z)
+abbrev pub moveRefusals : Desk → ℤ → ℤ → Offset → List Refusal
+moveRefusals d place turn o = Limits.disorder when (InOrder d → ⊥) ∷ (takenRefusals (d .store .places) place ++ placementRefusals turn (o .x) (o .y) (o .z))
 
--- what place p holds: its shape, plus one
-abbrev pub heldAt : List ℕ → ℕ → ℕ
-heldAt poses p = getD poses (2 * p) 0
+-- the shape of place p stays
+abbrev pub movedTo : List ℤ → ℕ → ℤ → Offset → Placement
+movedTo places p turn o = record { shape = heldIn places p -ℤ pos 1; turn = turn; x = o .x; y = o .y; z = o .z }
 
 -- "A move reports a count: over the three axes, the number of pairs (mark of the moved piece, mark of another piece) whose order before and after differs. It is at most 756."
-pub record MovedBy (before : Desk) (p t : ℕ) (x y z : ℤ) (after : Desk) (count : ℕ) : Type 0 where
-  pub put : PutDown before p (heldAt (before .store .poses) p) t x y z after
+pub record MovedBy (before : Desk) (p : ℕ) (turn : ℤ) (o : Offset) (after : Desk) (count : ℕ) : Type 0 where
+  pub put : PutDown before p (movedTo (before .store .places) p turn o) after
   pub counted : count ≡ changedMarks (axesOf (before .store)) (axesOf (after .store)) p
   pub most : count ≤ 12 * (Limits.places - 1)
 
-abbrev pub Moves : Desk → ℤ → ℤ → ℤ → ℤ → ℤ → Desk → Outcome → Type 0
-Moves before place turn x y z after r = Commanded (moveRefusals before place turn x y z) (MovedBy before (natAbs place) (natAbs turn) x y z after) before after r
+abbrev pub Moves : Desk → ℤ → ℤ → Offset → Desk → Outcome → Type 0
+Moves before place turn o after r = Commanded (moveRefusals before place turn o) (MovedBy before (natAbs place) turn o after) before after r
 
 -- ---- "Remove": 1, 7, 9
 abbrev pub removeRefusals : Desk → ℤ → List Refusal
-removeRefusals d place = Limits.disorder when (InOrder d → ⊥) ∷ takenRefusals (d .store .poses) place
+removeRefusals d place = Limits.disorder when (InOrder d → ⊥) ∷ takenRefusals (d .store .places) place
 
 abbrev pub Removed : Desk → ℤ → Desk → Outcome → Type 0
 Removed before place after r = Commanded (removeRefusals before place) (λ count. Emptied before (natAbs place) after × (count ≡ 0)) before after r
@@ -123,10 +126,18 @@ pub record ListsContacts (d : Desk) (room after : List ℕ) (r : Listed) : Type 
 
 -- ---- "Ask for the pair verdict of two different taken places": 1, 7, 9, 12
 abbrev pub pairRefusals : Desk → ℤ → ℤ → List Refusal
-pairRefusals d first second = Limits.disorder when (InOrder d → ⊥) ∷ twoRefusals (d .store .poses) first second
+pairRefusals d first second = Limits.disorder when (InOrder d → ⊥) ∷ twoRefusals (d .store .places) first second
 
 -- the desk is lent to be read alone; "The first piece is the one named first."
 pub record Pairs (d : Desk) (first second : ℤ) (r : Answer) : Type 0 where
   pub refusal : Lowest (pairRefusals d first second) (r .number)
   pub zeros : (r .number ≡ Limits.done → ⊥) → r ≡ nothing (r .number)
   pub carries : r .number ≡ Limits.done → Carries (pieceAt (d .store) (natAbs first)) (pieceAt (d .store) (natAbs second)) r
+
+-- ---- one command, with the corner numbers that come with it: a load takes them, every other command passes them over
+abbrev pub Does : Command → List ℤ → Desk → Desk → Outcome → Type 0
+Does Start numbers before after r = Started before after r
+Does (Load shape) numbers before after r = Loads before shape numbers after r
+Does (Place place q) numbers before after r = Places before place q after r
+Does (Move place turn o) numbers before after r = Moves before place turn o after r
+Does (Remove place) numbers before after r = Removed before place after r

@@ -4,7 +4,9 @@ use mathlib.Core.List.{List}
 use Prim.Native.Nat.{ℕ}
 use lib.IntN.{ℤ}
 use Rattle.limits.specs.Lowest.{Rising}
-use Rattle.state.specs.Desk.{Desk}
+use Rattle.pieces.specs.declared.placement.Placement.{Placement}
+use Rattle.pieces.specs.declared.placement.Offset.{Offset}
+use Rattle.desk_state.specs.Desk.{Desk}
 use Rattle.desk.specs.Commands.{startRefusals, loadRefusals, placeRefusals, moveRefusals, removeRefusals, contactRefusals, pairRefusals}
 
 module _ (d : Desk) where
@@ -14,11 +16,11 @@ module _ (d : Desk) where
   pub load-rise : (shape : ℤ) (numbers : List ℤ) → Rising (loadRefusals d shape numbers)
   load-rise shape numbers = tt
 
-  pub place-rise : (place shape turn x y z : ℤ) → Rising (placeRefusals d place shape turn x y z)
-  place-rise place shape turn x y z = tt
+  pub place-rise : (place : ℤ) (q : Placement) → Rising (placeRefusals d place q)
+  place-rise place q = tt
 
-  pub move-rise : (place turn x y z : ℤ) → Rising (moveRefusals d place turn x y z)
-  move-rise place turn x y z = tt
+  pub move-rise : (place turn : ℤ) (o : Offset) → Rising (moveRefusals d place turn o)
+  move-rise place turn o = tt
 
   pub remove-rise : (place : ℤ) → Rising (removeRefusals d place)
   remove-rise place = tt

@@ -7,10 +7,11 @@ use mathlib.Core.Bool.{Bool, true, false, _&&_, false≢true}
 use Prim.Native.Nat.{ℕ, zero, suc, _+_, _*_, _≤_, _<_}
 use native.Mathlib.Omega.{arith}
 use native.Mathlib.Numerals.{add-one}
-use native.Mathlib.Decide.{ℕ-discrete, decLt}
+use native.Mathlib.Decide.{ℕ-discrete}
 use borrow.Author.Tests.{eq-eqb, ne-eqb}
 use lib.Dec.{eqb}
 use lib.ListN.{length, getD, replicate}
+use Rattle.ints.specs.Order.{lt-or-ge}
 
 -- 1 where the test holds, else 0; the sum over the numbers below n
 abbrev pub oneIf : Bool → ℕ
@@ -32,10 +33,6 @@ hit x v = elim (ℕ-discrete x v) [ yes h ↦ inl (h, ap oneIf (eq-eqb x v h)) |
 
 pub hit-self : (x : ℕ) → oneIf (eqb x x) ≡ 1
 hit-self x = ap oneIf (eq-eqb x x refl)
-
-pub less : (a b : ℕ) → (a < b) ⊎ (b ≤ a)
-unfolding decLt
-less a b = elim (decLt a b) [ yes h ↦ inl h | no n ↦ inr (omega (arith, n)) ]
 
 pub and-true : (a b : Bool) → (a && b) ≡ true → (a ≡ true) × (b ≡ true)
 and-true true b h = (refl, h)
@@ -121,6 +118,9 @@ unfolding sumTo
 sum-le zero f g h = omega arith
 sum-le (suc n) f g h = omega (arith, sum-le n f g (λ q l. h q (omega arith)), h n (omega arith))
 
+under : (q n : ℕ) → q < suc n → (q ≡ n → ⊥) → q < n
+under q n l m = omega arith
+
 -- no summand is larger and the sums are equal: so is each summand
 pub sum-squeeze : (n : ℕ) (f g : ℕ → ℕ) → ((q : ℕ) → q < n → f q ≤ g q) → sumTo n f ≡ sumTo n g → (q : ℕ) → q < n → f q ≡ g q
 unfolding sumTo
@@ -132,9 +132,6 @@ sum-squeeze (suc n) f g h e q l =
       | inl y ↦ let k : f n ≡ g n = omega arith in ap f (y .0) ∙ k ∙ sym (ap g (y .0))
       | inr m ↦ sum-squeeze n f g (λ q l. h q (omega arith)) (omega arith) q (under q n l (m .0))
     ]
-  where
-    under : (q n : ℕ) → q < suc n → (q ≡ n → ⊥) → q < n
-    under q n l m = omega arith
 
 pub sum-one : (n : ℕ) (f : ℕ → ℕ) → ((q : ℕ) → q < n → f q ≤ 1) → sumTo n f ≤ n
 unfolding sumTo
@@ -156,9 +153,6 @@ unfolding sumTo
 sum-hit zero x h = absurd (omega arith)
 sum-hit (suc n) x h =
     elim (hit x n) [ inl y ↦ omega (arith, sum-out n x (omega arith)) | inr m ↦ omega (arith, sum-hit n x (under x n h (m .0))) ]
-  where
-    under : (x n : ℕ) → x < suc n → (x ≡ n → ⊥) → x < n
-    under x n h m = omega arith
 
 sum-nil : (n : ℕ) → sumTo n (λ q. countOf q []) ≡ 0
 unfolding sumTo countOf
@@ -175,13 +169,13 @@ sum-count n w (x ∷ xs) l h =
     elim (hit x w) [
       | inl y ↦ omega (arith, sum-out n x (omega arith))
       | inr m ↦
-          elim (less x n) [
+          elim (lt-or-ge x n) [
             | inl b ↦ omega (arith, sum-hit n x b)
             | inr b ↦ absurd (omega (arith, h x b (m .0), hit-self x))
           ]
     ]
 
--- at most one of each below n, and none of a: one less
+-- at most one of each below n, and none of a: one lt-or-ge
 pub sum-miss : (n a : ℕ) (f : ℕ → ℕ) → a < n → f a ≡ 0 → ((q : ℕ) → q < n → f q ≤ 1) → sumTo n f + 1 ≤ n
 sum-miss n a f la fa h =
     omega (arith, sum-one n (λ q. oneIf (eqb a q) + f q) each, sum-add n (λ q. oneIf (eqb a q)) f, sum-hit n a la)
@@ -189,12 +183,21 @@ sum-miss n a f la fa h =
     each : (q : ℕ) → q < n → oneIf (eqb a q) + f q ≤ 1
     each q l = elim (hit a q) [ inl y ↦ omega (arith, ap f (y .0)) | inr y ↦ omega (arith, h q l) ]
 
--- at most two of each below n, and none of a nor of b: four less
+-- at most two of each below n, and none of a nor of b: four lt-or-ge
 pub sum-four : (n a b : ℕ) (f : ℕ → ℕ) → a < n → b < n → (a ≡ b → ⊥) → f a ≡ 0 → f b ≡ 0 → ((q : ℕ) → q < n → f q ≤ 2) → sumTo n f + 4 ≤ 2 * n
 sum-four n a b f la lb ne fa fb h =
     let s = sum-twice n (λ q. (oneIf (eqb a q) + oneIf (eqb b q)) + ((oneIf (eqb a q) + oneIf (eqb b q)) + f q)) each in
     let u = sum-add n (λ q. oneIf (eqb a q)) (λ q. oneIf (eqb b q)) in
-    omega (arith, s, u, sum-add n (λ q. oneIf (eqb a q) + oneIf (eqb b q)) (λ q. (oneIf (eqb a q) + oneIf (eqb b q)) + f q), sum-add n (λ q. oneIf (eqb a q) + oneIf (eqb b q)) f, sum-hit n a la, sum-hit n b lb)
+    omega (
+      arith,
+      s,
+      u,
+      sum-add n (λ q. oneIf (eqb a q) + oneIf (eqb b q)) (λ q. (oneIf (eqb a q) + oneIf (eqb b q)) + f q),
+      sum-add n
+          (λ q. oneIf (eqb a q) + oneIf (eqb b q)) f,
+      sum-hit n a la,
+      sum-hit n b lb,
+    )
   where
     each : (q : ℕ) → q < n → (oneIf (eqb a q) + oneIf (eqb b q)) + ((oneIf (eqb a q) + oneIf (eqb b q)) + f q) ≤ 2
     each q l =

@@ -1,4 +1,5 @@
 pub mod Bounds
+pub mod Cases
 pub mod Counts
 pub mod Laws
 pub mod Measure

@@ -23,7 +23,8 @@ falls-z S q h s h′ s′ hS hs hs′ b b′ d m = le-of-nn (nn-factor {a = s′
 
 falls-n : (S h s h′ s′ : ℕ) → 0 < s → 0 < s′ → s ≤ S → s′ ≤ S → (pos s *ℤ pos h′) <ℤ (pos s′ *ℤ pos h) → S * S * h′ / s′ < S * S * h / s
 falls-n S h s h′ s′ hs hs′ b b′ m = le-div-iff-mul-le hs .1 (subst (λ k. k * s ≤ S * S * h) (omega arith)
-    (le-pos (falls-z (pos S) (pos (S * S * h′ / s′)) (pos h) (pos s) (pos h′) (pos s′) (nn-pos S) (pos-lt hs) (pos-lt hs′) (pos-le b) (pos-le b′) (pos-le (div-mul-le-self (S * S * h′) s′)) (lt-succ m))))
+    (le-pos (falls-z (pos S) (pos (S * S * h′ / s′)) (pos h) (pos s) (pos h′) (pos s′) (nn-pos S) (pos-lt hs) (pos-lt hs′) (pos-le b) (pos-le b′) (pos-le (div-mul-le-self (S * S * h′) s′))
+    (lt-succ m))))
 
 unfoldable pub measure : ℕ → ℤ → ℤ → ℕ
 measure S h s = S * S * natAbs h / natAbs s

@@ -1,6 +1,6 @@
 -- The numbers of document 01 that contracts cite, once. src/lib.rt has the same ones for code, and its three functions tie them together.
 -- A request that changes a number changes it here and there, and nowhere else.
-use Prim.Native.Nat.{ℕ, _*_}
+use Prim.Native.Nat.{ℕ, _+_, _*_}
 
 -- "Shapes are numbered 0 to 31." "A shape is a list of 1 to 32 corner points." "Places are numbered 0 to 63." "a turn 0 to 23"
 abbrev pub shapes : ℕ
@@ -15,18 +15,22 @@ places = 64
 abbrev pub turns : ℕ
 turns = 24
 
--- the lengths of the lent buffers
+-- the lengths of the lent buffers: a shape has its count of corners, then three numbers for each of the most corners that it may have
 abbrev pub shapeNumbers : ℕ
 shapeNumbers = 3 * corners
 
-abbrev pub cornerNumbers : ℕ
-cornerNumbers = shapes * shapeNumbers
+abbrev pub shapeCells : ℕ
+shapeCells = 1 + shapeNumbers
 
-abbrev pub poseNumbers : ℕ
-poseNumbers = 2 * places
+abbrev pub shapesLength : ℕ
+shapesLength = shapes * shapeCells
 
-abbrev pub offsetNumbers : ℕ
-offsetNumbers = 3 * places
+-- a place has its shape plus one, or 0 where it is empty, its turn, and the three numbers of its offset
+abbrev pub placeCells : ℕ
+placeCells = 5
+
+abbrev pub placesLength : ℕ
+placesLength = places * placeCells
 
 abbrev pub rows : ℕ
 rows = places * places

@@ -1,8 +1,8 @@
 -- "0 is done. Otherwise the lowest number that applies is given, and only where it applies." (document 01, "When the desk says no")
--- A call lists its refusals in the order that decides; two numbers that are both the lowest of one list are equal.
-use mathlib.Core.Path.{_≡_, sym, _∙_}
+-- A call lists its refusals in the order that decides. The laws stand in LowestLaws.
+use mathlib.Core.Path.{_≡_}
 use mathlib.Core.List.{List, [], _∷_}
-use mathlib.Core.Logic.{_⊎_, inl, inr}
+use mathlib.Core.Logic.{_⊎_}
 use mathlib.Core.Bool.{Bool, true, _&&_}
 use Prim.Native.Nat.{ℕ}
 use lib.Dec.{T, ltb}
@@ -34,11 +34,3 @@ Rising l = T (risesAbove 0 l)
 abbrev pub Applies : List Refusal → ℕ → Type 0
 Applies [] n = ⊥
 Applies (r ∷ rest) n = (r .applies × (n ≡ r .number)) ⊎ Applies rest n
-
--- the lowest is one number
-pub lowest-once : (l : List Refusal) {m n : ℕ} → Lowest l m → Lowest l n → m ≡ n
-lowest-once [] h k = h ∙ sym k
-lowest-once (r ∷ rest) (inl h) (inl k) = h .1 ∙ sym (k .1)
-lowest-once (r ∷ rest) (inl h) (inr k) = absurd (k .0 (h .0))
-lowest-once (r ∷ rest) (inr h) (inl k) = absurd (h .0 (k .0))
-lowest-once (r ∷ rest) (inr h) (inr k) = lowest-once rest (h .1) (k .1)

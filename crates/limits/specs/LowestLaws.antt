@@ -1,6 +1,6 @@
 -- Why `Lowest` is the lowest number that applies: of a list whose numbers rise it is no greater than any that applies, and not 0 where one does.
 -- And "only where it applies": of any list, a number that is not 0 is that of a refusal which applies.
-use mathlib.Core.Path.{_≡_}
+use mathlib.Core.Path.{_≡_, sym, _∙_}
 use mathlib.Core.List.{List, [], _∷_}
 use mathlib.Core.Logic.{inl, inr}
 use mathlib.Core.Bool.{Bool, true, false, _&&_}
@@ -42,3 +42,11 @@ pub lowest-applies : (l : List Refusal) {n : ℕ} → Lowest l n → 0 < n → A
 lowest-applies [] h z = absurd (omega arith)
 lowest-applies (r ∷ rest) (inl h) z = inl h
 lowest-applies (r ∷ rest) (inr h) z = inr (lowest-applies rest (h .1) z)
+
+-- the lowest is one number
+pub lowest-once : (l : List Refusal) {m n : ℕ} → Lowest l m → Lowest l n → m ≡ n
+lowest-once [] h k = h ∙ sym k
+lowest-once (r ∷ rest) (inl h) (inl k) = h .1 ∙ sym (k .1)
+lowest-once (r ∷ rest) (inl h) (inr k) = absurd (k .0 (h .0))
+lowest-once (r ∷ rest) (inr h) (inl k) = absurd (h .0 (k .0))
+lowest-once (r ∷ rest) (inr h) (inr k) = lowest-once rest (h .1) (k .1)

@@ -14,9 +14,10 @@ theSizes = record {
   places = Limits.places;
   turns = Limits.turns;
   «shape_numbers» = Limits.shapeNumbers;
-  «corner_numbers» = Limits.cornerNumbers;
-  «pose_numbers» = Limits.poseNumbers;
-  «offset_numbers» = Limits.offsetNumbers;
+  «shape_cells» = Limits.shapeCells;
+  «shapes_length» = Limits.shapesLength;
+  «place_cells» = Limits.placeCells;
+  «places_length» = Limits.placesLength;
   rows = Limits.rows;
   «axis_marks» = Limits.axisMarks;
   marks = Limits.marks;
@@ -38,6 +39,7 @@ theRanges = record {
 
 abbrev pub theRefusals : Refusals
 theRefusals = record {
-  desk = Limits.done ∷ Limits.disorder ∷ Limits.shapeNumber ∷ Limits.listLength ∷ Limits.cornerRange ∷ Limits.shapeLoaded ∷ Limits.shapeMissing ∷ Limits.placeNumber ∷ Limits.placeTaken ∷ Limits.placeEmpty ∷ Limits.turnNumber ∷ Limits.offsetRange ∷ Limits.samePlace ∷ Limits.shortRoom ∷ [];
+  desk =
+      Limits.done ∷ Limits.disorder ∷ Limits.shapeNumber ∷ Limits.listLength ∷ Limits.cornerRange ∷ Limits.shapeLoaded ∷ Limits.shapeMissing ∷ Limits.placeNumber ∷ Limits.placeTaken ∷ Limits.placeEmpty ∷ Limits.turnNumber ∷ Limits.offsetRange ∷ Limits.samePlace ∷ Limits.shortRoom ∷ [];
   text = Limits.lengthForm ∷ Limits.lengthRange ∷ Limits.notFinite ∷ Limits.notWhole ∷ Limits.floatRange ∷ Limits.sizeZero ∷ Limits.placedRange ∷ [];
 }

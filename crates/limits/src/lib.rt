@@ -13,13 +13,17 @@ pub const PLACES: usize = 64;
 pub const TURNS: usize = 24;
 
 // The lengths of the lent buffers, each worked out of the counts above.
+// A shape has its count of corners, then three numbers for each of the most corners that it may have.
 pub const SHAPE_NUMBERS: usize = 3 * CORNERS;
 
-pub const CORNER_NUMBERS: usize = SHAPES * SHAPE_NUMBERS;
+pub const SHAPE_CELLS: usize = 1 + SHAPE_NUMBERS;
 
-pub const POSE_NUMBERS: usize = 2 * PLACES;
+pub const SHAPES_LENGTH: usize = SHAPES * SHAPE_CELLS;
 
-pub const OFFSET_NUMBERS: usize = 3 * PLACES;
+// A place has its shape plus one, or 0 where it is empty, its turn, and the three numbers of its offset.
+pub const PLACE_CELLS: usize = 5;
+
+pub const PLACES_LENGTH: usize = PLACES * PLACE_CELLS;
 
 pub const ROWS: usize = PLACES * PLACES;
 
@@ -99,9 +103,10 @@ struct Sizes {
     places: usize,
     turns: usize,
     shape_numbers: usize,
-    corner_numbers: usize,
-    pose_numbers: usize,
-    offset_numbers: usize,
+    shape_cells: usize,
+    shapes_length: usize,
+    place_cells: usize,
+    places_length: usize,
     rows: usize,
     axis_marks: usize,
     marks: usize,
@@ -135,9 +140,10 @@ fn tied_sizes() -> Sizes
         places: PLACES,
         turns: TURNS,
         shape_numbers: SHAPE_NUMBERS,
-        corner_numbers: CORNER_NUMBERS,
-        pose_numbers: POSE_NUMBERS,
-        offset_numbers: OFFSET_NUMBERS,
+        shape_cells: SHAPE_CELLS,
+        shapes_length: SHAPES_LENGTH,
+        place_cells: PLACE_CELLS,
+        places_length: PLACES_LENGTH,
         rows: ROWS,
         axis_marks: AXIS_MARKS,
         marks: MARKS,

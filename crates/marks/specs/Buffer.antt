@@ -15,7 +15,8 @@ use Rattle.marks.specs.Cells.{one-part, none-in-place}
 pub whole : (marks : List ℕ) → length marks ≡ Limits.marks → marks ≡ partX marks ++ (partY marks ++ partZ marks)
 whole m h =
     sym (take-append-drop Limits.axisMarks m) ∙ ap (λ (r : List ℕ). partX m ++ r) (sym (take-append-drop Limits.axisMarks (drop Limits.axisMarks m))
-    ∙ ap (λ (r : List ℕ). partY m ++ r) (drop-drop Limits.axisMarks Limits.axisMarks m ∙ sym (take-all Limits.axisMarks (drop (2 * Limits.axisMarks) m) (omega (arith, h, length-drop (2 * Limits.axisMarks) m)))))
+    ∙ ap (λ (r : List ℕ). partY m ++ r)
+    (drop-drop Limits.axisMarks Limits.axisMarks m ∙ sym (take-all Limits.axisMarks (drop (2 * Limits.axisMarks) m) (omega (arith, h, length-drop (2 * Limits.axisMarks) m)))))
 
 -- two buffers in place for the same places and values are one
 pub one-buffer : (a : Axes) → RangedMarks a → (m n : List ℕ) → InPlaceMarks a m → InPlaceMarks a n → m ≡ n

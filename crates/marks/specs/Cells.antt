@@ -12,11 +12,12 @@ use lib.IntN.{ℤ}
 use lib.ListN.{length, getD, replicate, length-replicate}
 use Rattle.limits.specs.Limits
 use Rattle.marks.specs.Marks.{Axis, placeOf, sideOf, valueOf, isMark, earlier, InPlace, Ranged, OthersStay}
-use Rattle.ints.specs.Counts.{oneIf, countOf, hit, less, and-false, oneIf≤, count-pos, count-fill, find, find-two, twice}
+use Rattle.ints.specs.Counts.{oneIf, countOf, hit, and-false, oneIf≤, count-pos, count-fill, find, find-two, twice}
+use Rattle.ints.specs.Order.{lt-or-ge}
 use Rattle.marks.specs.Keys.{noKey, keyFor, keyAt, Keyed, keyOf}
 use Rattle.marks.specs.Rising.{up-at, up-from, up-none, fill-up}
 use Rattle.marks.specs.Sorted.{Sorted, keyed, top-key, member, only, reordered, stays-sorted}
-use Rattle.marks.specs.Order.{mark-low, no-mark, at-none, keyed-is, fine, key-decides, keys-are}
+use Rattle.marks.specs.Order.{mark-low, no-mark, at-none, small-at, keyed-is, fine, key-decides, keys-are}
 
 module _ (a : Axis) (r : Ranged a) (xs : List ℕ) where
   abbrev e : ℕ → ℕ
@@ -24,9 +25,6 @@ module _ (a : Axis) (r : Ranged a) (xs : List ℕ) where
 
   mark-of : (m : ℕ) → keyed (keyAt a) m ≡ true → isMark a m ≡ true
   mark-of m h = sym (keyed-is a r m) ∙ h
-
-  small : (m : ℕ) → isMark a m ≡ true → keyAt a m < noKey
-  small m h = ltb-true (keyAt a m) noKey (keyed-is a r m ∙ h)
 
   not-end : (m : ℕ) → isMark a m ≡ true → m ≡ Limits.noMark → ⊥
   not-end m h k = omega (arith, mark-low a m h .0)
@@ -52,10 +50,16 @@ module _ (a : Axis) (r : Ranged a) (xs : List ℕ) where
       order i j l m n =
           let mj = stands j m n in
           let up = up-at (keyAt a) 0 xs i j (s .rising) l (omega (arith, m, s .long)) in
-          let ni : getD xs i 0 ≡ Limits.noMark → ⊥ = λ k. omega (arith, up, small (getD xs j 0) mj, ap (keyAt a) k, top-key (keyAt a) (fine a r)) in
+          let ni : getD xs i 0 ≡ Limits.noMark → ⊥ = λ k. omega (arith, up, small-at a r (getD xs j 0) mj, ap (keyAt a) k, top-key (keyAt a) (fine a r)) in
           let mi = stands i (omega arith) ni in
           let lt = strict (keyAt a (getD xs i 0)) (keyAt a (getD xs j 0)) up
-          (λ k. omega (arith, twice xs i j l (omega (arith, m, s .long)) (fine a r .own (getD xs i 0) (getD xs j 0) (small (getD xs i 0) mi) k), s .once (getD xs j 0) n, oneIf≤ (keyed (keyAt a) (getD xs j 0)))) in
+          (λ k. omega (
+            arith,
+            twice xs i j l (omega (arith, m, s .long)) (fine a r .own (getD xs i 0) (getD xs j 0) (small-at a r (getD xs i 0) mi) k),
+            s .once (getD xs j 0) n,
+            oneIf≤
+                (keyed (keyAt a) (getD xs j 0)),
+          )) in
           (ni, key-decides a r (getD xs i 0) (getD xs j 0) mi mj ∙ lt-ltb (keyAt a (getD xs i 0)) (keyAt a (getD xs j 0)) lt)
 
   pub sorted : InPlace a xs → Sorted (keyAt a) (keyed (keyAt a)) xs
@@ -71,7 +75,7 @@ module _ (a : Axis) (r : Ranged a) (xs : List ℕ) where
 
       few : (q : ℕ) → (q ≡ Limits.noMark → ⊥) → countOf q xs ≤ 1
       few q n =
-          elim (less 1 (countOf q xs)) [
+          elim (lt-or-ge 1 (countOf q xs)) [
             | inl l ↦
                 let f = find-two q xs l in
                 absurd (omega (arith, climbs (f .0) (f .1) (f .2) (omega (arith, f .3, p .long)) (λ k. n (sym (f .5) ∙ k)), ap (keyAt a) (f .4 ∙ sym (f .5))))
@@ -83,7 +87,7 @@ module _ (a : Axis) (r : Ranged a) (xs : List ℕ) where
           let f = p .all q h in
           omega (arith, few q n, ap oneIf (keyed-is a r q ∙ h), ap (λ (z : ℕ). countOf z xs) (f .2), count-pos xs (f .0) (omega (arith, f .1, p .long)))
       once q n false h =
-          elim (less 0 (countOf q xs)) [
+          elim (lt-or-ge 0 (countOf q xs)) [
             | inl l ↦
                 let f = find q xs l in
                 absurd (false≢true (sym h ∙ ap (isMark a) (sym (f .2)) ∙ stands (f .0) (omega (arith, f .1, p .long)) (λ k. n (sym (f .2) ∙ k))))
@@ -116,7 +120,8 @@ none-in-place a h = in-place a (λ m k. absurd (false≢true (sym (none m) ∙ k
     ranged m k = absurd (false≢true (sym (none m) ∙ k))
 
 -- a mark of a place that stays keeps its key
-key-stays : (old new : Axis) (q : ℕ) → old .taken (placeOf q) ≡ new .taken (placeOf q) → (old .taken (placeOf q) ≡ true → (old .low (placeOf q) ≡ new .low (placeOf q)) × (old .high (placeOf q) ≡ new .high (placeOf q))) → keyAt old q ≡ keyAt new q
+key-stays : (old new : Axis) (q : ℕ) → old .taken (placeOf q) ≡ new .taken (placeOf q)
+    → (old .taken (placeOf q) ≡ true → (old .low (placeOf q) ≡ new .low (placeOf q)) × (old .high (placeOf q) ≡ new .high (placeOf q))) → keyAt old q ≡ keyAt new q
 unfolding keyAt
 key-stays old new q t v = each (old .taken (placeOf q)) refl
   where
@@ -134,13 +139,14 @@ key-stays old new q t v = each (old .taken (placeOf q)) refl
 
 pub stay : (old new : Axis) (place : ℕ) → OthersStay place old new → (q : ℕ) → (placeOf q ≡ place → ⊥) → keyAt old q ≡ keyAt new q
 stay old new place o q n =
-    elim (less q Limits.axisMarks) [
+    elim (lt-or-ge q Limits.axisMarks) [
       | inl l ↦ key-stays old new q (o .taken (placeOf q) (omega arith) n) (λ h. (o .low (placeOf q) (omega arith) n h, o .high (placeOf q) (omega arith) n h))
       | inr l ↦ at-none old q (no-mark old q l) ∙ sym (at-none new q (no-mark new q l))
     ]
 
 -- a place, a move or a removal keeps the part in place
-pub stays-in-place : (old new : Axis) (keys : List ℕ) (place : ℕ) (xs : List ℕ) → place < Limits.places → Ranged old → Keyed new keys → OthersStay place old new → InPlace old xs → InPlace new (reordered (keyOf keys) place xs)
+pub stays-in-place : (old new : Axis) (keys : List ℕ) (place : ℕ) (xs : List ℕ) → place < Limits.places → Ranged old → Keyed new keys → OthersStay place old new → InPlace old xs
+    → InPlace new (reordered (keyOf keys) place xs)
 stays-in-place old new keys place xs l ro k o p =
     subst (λ (e : ℕ → ℕ). InPlace new (reordered e place xs)) (sym (keys-are new keys k))
     (in-place new (k .ranged) (reordered (keyAt new) place xs) (stays-sorted (keyAt old) (keyAt new) xs place l (fine old ro) (fine new (k .ranged)) (stay old new place o) (sorted old ro xs p)))

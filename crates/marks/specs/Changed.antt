@@ -40,7 +40,11 @@ crossed≤ old new place other =
 -- of a sum in which the own two marks count 0 and every other at most 2
 four : (f : ℕ → ℕ) (place : ℕ) → place < Limits.places → ((q : ℕ) → placeOf q ≡ place → f q ≡ 0) → ((q : ℕ) → f q ≤ 2) → sumTo Limits.axisMarks f ≤ 4 * (Limits.places - 1)
 four f place l own each =
-    omega (arith, sum-four Limits.axisMarks (lowMark place) (highMark place) f (omega arith) (omega arith) (λ k. omega arith) (own (lowMark place) (omega arith)) (own (highMark place) (omega arith)) (λ q _. each q))
+    omega (
+      arith,
+      sum-four Limits.axisMarks (lowMark place) (highMark place) f (omega arith) (omega arith) (λ k. omega arith) (own (lowMark place) (omega arith)) (own (highMark place) (omega arith))
+          (λ q _. each q),
+    )
 
 pub changedKeys≤ : (old new : List ℕ) (place : ℕ) → place < Limits.places → changedKeys old new place ≤ 4 * (Limits.places - 1)
 unfolding changedKeys
@@ -90,7 +94,8 @@ module _ (old new : Axis) (ko kn : List ℕ) (place : ℕ) (l : place < Limits.p
       ∙ other (isMark old q) (eqb (placeOf q) place) refl refl
     where
       other : (c d : Bool) → isMark old q ≡ c → eqb (placeOf q) place ≡ d
-          → cond (isMark old q && notOf place q) (crossedKeys ko kn (lowMark place) q + crossedKeys ko kn (highMark place) q) 0 ≡ cond (isMark old q && notOf place q) (crossed old new (lowMark place) q + crossed old new (highMark place) q) 0
+          → cond (isMark old q && notOf place q) (crossedKeys ko kn (lowMark place) q + crossedKeys ko kn (highMark place) q) 0 ≡ cond (isMark old q && notOf place q)
+          (crossed old new (lowMark place) q + crossed old new (highMark place) q) 0
       other false d hc hd = simp hc
       other true true hc hd = simp (hc, hd)
       other true false hc hd =

@@ -13,10 +13,10 @@ use lib.ListN.{getD}
 use lib.Signed.{ltZ, nonNeg, _≤ℤ_, _<ℤ_, ≤ℤ-refl, clashℤ}
 use Rattle.limits.specs.Limits
 use Rattle.ints.specs.Bounds.{Within, natAbs-add}
-use Rattle.ints.specs.Order.{subℕ-ge, trichotomy, lt→≤ℤ}
+use Rattle.ints.specs.Order.{subℕ-ge, trichotomy, lt→≤ℤ, lt-or-ge}
 use Rattle.marks.specs.Marks.{Axis, placeOf, sideOf, valueOf, isMark, earlier, Ranged}
 use Rattle.marks.specs.Keys.{noKey, raised, keyFor, keyAt, Keyed, keyOf}
-use Rattle.ints.specs.Counts.{less, and-true}
+use Rattle.ints.specs.Counts.{and-true}
 use Rattle.marks.specs.Sorted.{Fine, keyed}
 
 -- tests of values
@@ -58,16 +58,16 @@ key-small m h l = omega (arith, raised-most h)
 -- x * places + p tells p, and so do two sides of it
 split : (x y p q : ℕ) → p < Limits.places → q < Limits.places → x * Limits.places + p ≡ y * Limits.places + q → (x ≡ y) × (p ≡ q)
 split x y p q l m k =
-    elim (less x y) [
+    elim (lt-or-ge x y) [
       | inl a ↦ absurd (omega arith)
-      | inr a ↦ elim (less y x) [ inl b ↦ absurd (omega arith) | inr b ↦ let e : x ≡ y = omega arith in (e, omega arith) ]
+      | inr a ↦ elim (lt-or-ge y x) [ inl b ↦ absurd (omega arith) | inr b ↦ let e : x ≡ y = omega arith in (e, omega arith) ]
     ]
 
 side : (x y p q : ℕ) → p ≤ 1 → q ≤ 1 → x * 2 + p ≡ y * 2 + q → p ≡ q
 side x y p q l m k =
-    elim (less x y) [
+    elim (lt-or-ge x y) [
       | inl a ↦ absurd (omega arith)
-      | inr a ↦ elim (less y x) [ inl b ↦ absurd (omega arith) | inr b ↦ omega arith ]
+      | inr a ↦ elim (lt-or-ge y x) [ inl b ↦ absurd (omega arith) | inr b ↦ omega arith ]
     ]
 
 key-own : (v w : ℤ) (m n : ℕ) → m < Limits.axisMarks → n < Limits.axisMarks → keyFor v m ≡ keyFor w n → m ≡ n
@@ -85,22 +85,24 @@ decides v w m n hv hw lm ln =
       | inr (inr l) ↦ simp (ltZ-not (lt→≤ℤ l), ltZ-is l) (sym (le-ltb (keyFor v m) (keyFor w n) (omega (arith, raised-lt w v hw hv l))))
       | inr (inl e) ↦
           let r : raised v ≡ raised w = ap raised e in
-          ap (λ (b : Bool). cond b true (cond (ltZ w v) false (cond (ltb (sideOf m) (sideOf n)) true (cond (ltb (sideOf n) (sideOf m)) false (ltb (placeOf m) (placeOf n)))))) (ltZ-not (subst (λ (z : ℤ). z ≤ℤ v) e (≤ℤ-refl v)))
-          ∙ ap (λ (b : Bool). cond b false (cond (ltb (sideOf m) (sideOf n)) true (cond (ltb (sideOf n) (sideOf m)) false (ltb (placeOf m) (placeOf n))))) (ltZ-not (subst (λ (z : ℤ). v ≤ℤ z) e (≤ℤ-refl v)))
+          ap (λ (b : Bool). cond b true (cond (ltZ w v) false (cond (ltb (sideOf m) (sideOf n)) true (cond (ltb (sideOf n) (sideOf m)) false (ltb (placeOf m) (placeOf n))))))
+          (ltZ-not (subst (λ (z : ℤ). z ≤ℤ v) e (≤ℤ-refl v)))
+          ∙ ap (λ (b : Bool). cond b false (cond (ltb (sideOf m) (sideOf n)) true (cond (ltb (sideOf n) (sideOf m)) false (ltb (placeOf m) (placeOf n)))))
+          (ltZ-not (subst (λ (z : ℤ). v ≤ℤ z) e (≤ℤ-refl v)))
           ∙ tie r
     ]
   where
     tie : raised v ≡ raised w → cond (ltb (sideOf m) (sideOf n)) true (cond (ltb (sideOf n) (sideOf m)) false (ltb (placeOf m) (placeOf n))) ≡ ltb (keyFor v m) (keyFor w n)
     tie r =
-        elim (less (sideOf m) (sideOf n)) [
+        elim (lt-or-ge (sideOf m) (sideOf n)) [
           | inl l ↦ simp (lt-ltb (sideOf m) (sideOf n) l) (sym (lt-ltb (keyFor v m) (keyFor w n) (omega arith)))
           | inr l ↦
-              elim (less (sideOf n) (sideOf m)) [
+              elim (lt-or-ge (sideOf n) (sideOf m)) [
                 | inl k ↦ simp (le-ltb (sideOf m) (sideOf n) l, lt-ltb (sideOf n) (sideOf m) k) (sym (le-ltb (keyFor v m) (keyFor w n) (omega arith)))
                 | inr k ↦
                     ap (λ (b : Bool). cond b true (cond (ltb (sideOf n) (sideOf m)) false (ltb (placeOf m) (placeOf n)))) (le-ltb (sideOf m) (sideOf n) l)
                     ∙ ap (λ (b : Bool). cond b false (ltb (placeOf m) (placeOf n))) (le-ltb (sideOf n) (sideOf m) k)
-                    ∙ elim (less (placeOf m) (placeOf n)) [
+                    ∙ elim (lt-or-ge (placeOf m) (placeOf n)) [
                       | inl p ↦ lt-ltb (placeOf m) (placeOf n) p ∙ sym (lt-ltb (keyFor v m) (keyFor w n) (omega arith))
                       | inr p ↦ le-ltb (placeOf m) (placeOf n) p ∙ sym (le-ltb (keyFor v m) (keyFor w n) (omega arith))
                     ]
@@ -165,7 +167,7 @@ keys-are a keys k = λ i q. each q i
   where
     each : (q : ℕ) → keyOf keys q ≡ keyAt a q
     each q =
-        elim (less q Limits.axisMarks) [
+        elim (lt-or-ge q Limits.axisMarks) [
           | inl l ↦ ap (λ (b : Bool). cond b (getD keys q 0) noKey) (lt-ltb q Limits.axisMarks l) ∙ k .is q l
           | inr l ↦ ap (λ (b : Bool). cond b (getD keys q 0) noKey) (le-ltb q Limits.axisMarks l) ∙ sym (at-none a q (no-mark a q l))
         ]

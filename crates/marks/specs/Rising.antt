@@ -9,7 +9,8 @@ use native.Mathlib.Omega.{arith}
 use borrow.Author.Tests.{le-leb, lt-ltb, le-ltb, leb-true}
 use lib.Dec.{eqb, leb, ltb}
 use lib.ListN.{length, getD, replicate}
-use Rattle.ints.specs.Counts.{oneIf, countOf, hit, hit-self, less, and-true, count-pos}
+use Rattle.ints.specs.Counts.{oneIf, countOf, hit, hit-self, and-true, count-pos}
+use Rattle.ints.specs.Order.{lt-or-ge}
 
 -- the keys rise from k on
 unfoldable pub rises : (ℕ → ℕ) → ℕ → List ℕ → Bool
@@ -132,7 +133,7 @@ module _ (e : ℕ → ℕ) where
   pass-up k c [] r h = unfold pass in up-none k
   pass-up k c (q ∷ qs) r h =
       let p = up-head k q qs r in
-      elim (less (e c) (e q)) [
+      elim (lt-or-ge (e c) (e q)) [
         | inl l ↦ ap (rises e k) (pass-lt c q qs l) ∙ up-make k c (pass e q qs) h (pass-up (e c) q qs (up-less (e c) (e q) qs (omega arith) (p .1)) (omega arith))
         | inr l ↦ ap (rises e k) (pass-ge c q qs l) ∙ up-make k q (pass e c qs) (p .0) (pass-up (e q) c qs (p .1) l)
       ]
@@ -141,7 +142,7 @@ module _ (e : ℕ → ℕ) where
   unfolding countOf pass last
   pass-count v c [] = omega arith
   pass-count v c (q ∷ qs) =
-      elim (less (e c) (e q)) [
+      elim (lt-or-ge (e c) (e q)) [
         | inl l ↦ omega (arith, ap (countOf v) (pass-lt c q qs l), ap (λ (z : ℕ). oneIf (eqb z v)) (last-lt c q qs l), pass-count v q qs)
         | inr l ↦ omega (arith, ap (countOf v) (pass-ge c q qs l), ap (λ (z : ℕ). oneIf (eqb z v)) (last-ge c q qs l), pass-count v c qs)
       ]
@@ -150,7 +151,7 @@ module _ (e : ℕ → ℕ) where
   last-own : (c : ℕ) (xs : List ℕ) → e c ≤ e (last e c xs)
   last-own c [] = unfold last in omega arith
   last-own c (q ∷ qs) =
-      elim (less (e c) (e q)) [
+      elim (lt-or-ge (e c) (e q)) [
         | inl l ↦ omega (arith, ap e (last-lt c q qs l), last-own q qs)
         | inr l ↦ omega (arith, ap e (last-ge c q qs l), last-own c qs)
       ]
@@ -159,7 +160,7 @@ module _ (e : ℕ → ℕ) where
   unfolding countOf
   last-max v c [] h = omega arith
   last-max v c (q ∷ qs) h =
-      elim (less (e c) (e q)) [
+      elim (lt-or-ge (e c) (e q)) [
         | inl l ↦
             elim (hit q v) [
               | inl y ↦ omega (arith, ap e (last-lt c q qs l), last-own q qs, ap e (y .0))
@@ -188,25 +189,30 @@ module _ (e : ℕ → ℕ) where
   fill-up k w n (x ∷ xs) top h r = let p = up-head k x xs r in up-make k x (xs ++ replicate n w) (p .0) (fill-up (e x) w n xs top (top x) (p .1))
 
 module _ (f : ℕ → Bool) where
+  chosen : {b c : Bool} (n : ℕ) → b ≡ c → cond b n 0 ≡ cond c n 0
+  chosen n e = ap (λ (z : Bool). cond z n 0) e
+
+  -- a number that is not v adds nothing to its count
+  missed : (v x : ℕ) (xs : List ℕ) → oneIf (eqb x v) ≡ 0 → cond (f v) (oneIf (eqb x v) + countOf v xs) 0 ≡ cond (f v) (countOf v xs) 0
+  missed v x xs e = ap (λ (z : ℕ). cond (f v) z 0) (omega arith)
+
   keep-step : (v x : ℕ) (xs : List ℕ) (b : Bool) → f x ≡ b → countOf v (keep f xs) ≡ cond (f v) (countOf v xs) 0 → countOf v (cond b (x ∷ keep f xs) (keep f xs)) ≡ cond (f v) (countOf v (x ∷ xs)) 0
   unfolding countOf
   keep-step v x xs true g t =
       elim (hit x v) [
         | inl y ↦
             let fv : f v ≡ true = ap f (sym (y .0)) ∙ g in
-            omega (arith, t, ap (λ (z : Bool). cond z (countOf v xs) 0) fv, ap (λ (z : Bool). cond z (oneIf (eqb x v) + countOf v xs) 0) fv)
+            omega (arith, t, chosen (countOf v xs) fv, chosen (oneIf (eqb x v) + countOf v xs) fv)
         | inr n ↦
-            let s : cond (f v) (oneIf (eqb x v) + countOf v xs) 0 ≡ cond (f v) (countOf v xs) 0 = ap (λ (z : ℕ). cond (f v) (z + countOf v xs) 0) (n .1) ∙ ap (λ (z : ℕ). cond (f v) z 0) (omega arith) in
-            omega (arith, t, s)
+            omega (arith, t, missed v x xs (n .1))
       ]
   keep-step v x xs false g t =
       elim (hit x v) [
         | inl y ↦
             let fv : f v ≡ false = ap f (sym (y .0)) ∙ g in
-            omega (arith, t, ap (λ (z : Bool). cond z (countOf v xs) 0) fv, ap (λ (z : Bool). cond z (oneIf (eqb x v) + countOf v xs) 0) fv)
+            omega (arith, t, chosen (countOf v xs) fv, chosen (oneIf (eqb x v) + countOf v xs) fv)
         | inr n ↦
-            let s : cond (f v) (oneIf (eqb x v) + countOf v xs) 0 ≡ cond (f v) (countOf v xs) 0 = ap (λ (z : ℕ). cond (f v) (z + countOf v xs) 0) (n .1) ∙ ap (λ (z : ℕ). cond (f v) z 0) (omega arith) in
-            omega (arith, t, s)
+            omega (arith, t, missed v x xs (n .1))
       ]
 
   pub keep-count : (v : ℕ) (xs : List ℕ) → countOf v (keep f xs) ≡ cond (f v) (countOf v xs) 0

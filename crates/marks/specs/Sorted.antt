@@ -11,7 +11,8 @@ use lib.Dec.{eqb, ltb}
 use lib.ListN.{length, replicate, length-append, length-replicate}
 use Rattle.limits.specs.Limits
 use Rattle.marks.specs.Marks.{placeOf, lowMark, highMark}
-use Rattle.ints.specs.Counts.{oneIf, sumTo, countOf, hit, hit-self, less, and-true, and-false, oneIf≤, oneIf-true, count-append, count-fill, sum-same, sum-count, sum-miss}
+use Rattle.ints.specs.Counts.{oneIf, sumTo, countOf, hit, hit-self, and-true, and-false, oneIf≤, oneIf-true, count-append, count-fill, sum-same, sum-count, sum-miss}
+use Rattle.ints.specs.Order.{lt-or-ge}
 use Rattle.marks.specs.Keys.{noKey}
 use Rattle.marks.specs.Rising.{rises, pass, last, keep, same, up-same, pass-long, pass-top, pass-up, pass-count, last-max, keep-up, fill-up, keep-count, keep-long}
 
@@ -31,7 +32,7 @@ pub record Sorted (e : ℕ → ℕ) (mine : ℕ → Bool) (xs : List ℕ) : Type
   pub rising : rises e 0 xs ≡ true
 
 pub keyed-low : (e : ℕ → ℕ) → Fine e → (q : ℕ) → keyed e q ≡ true → q < Limits.axisMarks
-keyed-low e f q h = elim (less q Limits.axisMarks) [ inl l ↦ l | inr l ↦ absurd (omega (arith, ltb-true (e q) noKey h, f .far q l)) ]
+keyed-low e f q h = elim (lt-or-ge q Limits.axisMarks) [ inl l ↦ l | inr l ↦ absurd (omega (arith, ltb-true (e q) noKey h, f .far q l)) ]
 
 pub top-key : (e : ℕ → ℕ) → Fine e → e Limits.noMark ≡ noKey
 top-key e f = f .far Limits.noMark (omega arith)
@@ -50,7 +51,7 @@ module _ (e : ℕ → ℕ) (mine : ℕ → Bool) (xs : List ℕ) (s : Sorted e m
   module _ (low : (q : ℕ) → mine q ≡ true → q < Limits.axisMarks) where
     beyond : (q : ℕ) → Limits.axisMarks ≤ q → (q ≡ Limits.noMark → ⊥) → countOf q xs ≡ 0
     beyond q l n =
-        elim (less 0 (countOf q xs)) [
+        elim (lt-or-ge 0 (countOf q xs)) [
           | inl h ↦ absurd (omega (arith, low q (member q n h)))
           | inr h ↦ omega arith
         ]
@@ -116,7 +117,15 @@ pub removed : (e : ℕ → ℕ) (mine : ℕ → Bool) (xs : List ℕ) (place : �
 unfolding cleared
 removed e mine xs place f s =
     record {
-      long = omega (arith, length-append (keep (notOf place) xs) (replicate (length xs - length (keep (notOf place) xs)) Limits.noMark), length-replicate {A = ℕ} (length xs - length (keep (notOf place) xs)) Limits.noMark, keep-long (notOf place) xs, s .long);
+      long =
+          omega (
+            arith,
+            length-append (keep (notOf place) xs) (replicate (length xs - length (keep (notOf place) xs)) Limits.noMark),
+            length-replicate {A = ℕ}
+                (length xs - length (keep (notOf place) xs)) Limits.noMark,
+            keep-long (notOf place) xs,
+            s .long,
+          );
       once = counts;
       rising = fill-up e 0 Limits.noMark (length xs - length (keep (notOf place) xs)) (keep (notOf place) xs) (top e f) (omega arith) (keep-up e (notOf place) 0 xs (s .rising));
     }
@@ -158,7 +167,8 @@ module _ (e : ℕ → ℕ) (mine : ℕ → Bool) (xs : List ℕ) (c : ℕ) (f : 
     where
       counts : (q : ℕ) → (q ≡ Limits.noMark → ⊥) → countOf q (pass e c xs) ≡ oneIf (mine q || eqb q c)
       counts q n =
-          let step : countOf q (pass e c xs) + oneIf (eqb Limits.noMark q) ≡ oneIf (eqb c q) + countOf q xs = ap (λ (z : ℕ). countOf q (pass e c xs) + oneIf (eqb z q)) (sym (falls k)) ∙ pass-count e q c xs in
+          let step : countOf q (pass e c xs) + oneIf (eqb Limits.noMark q) ≡ oneIf (eqb c q) + countOf q xs = ap (λ (z : ℕ). countOf q (pass e c xs) + oneIf (eqb z q))
+          (sym (falls k)) ∙ pass-count e q c xs in
           let z = ap oneIf (ne-eqb Limits.noMark q (λ p. n (sym p))) in
           elim (hit c q) [
             | inl y ↦
@@ -175,8 +185,9 @@ module _ (e : ℕ → ℕ) (mine : ℕ → Bool) (xs : List ℕ) (c : ℕ) (f : 
 
   pub inserted : Sorted e (λ q. mine q || (eqb q c && keyed e c)) (pass e c xs)
   inserted =
-      elim (less (e c) noKey) [
-        | inl k ↦ retaken e (λ q. mine q || eqb q c) (λ q. mine q || (eqb q c && keyed e c)) (pass e c xs) (λ q n. sym (ap (λ (b : Bool). mine q || (eqb q c && b)) (lt-ltb (e c) noKey k) ∙ ap (λ (b : Bool). mine q || b) (and-one (eqb q c)))) (goes-in k)
+      elim (lt-or-ge (e c) noKey) [
+        | inl k ↦ retaken e (λ q. mine q || eqb q c) (λ q. mine q || (eqb q c && keyed e c)) (pass e c xs)
+            (λ q n. sym (ap (λ (b : Bool). mine q || (eqb q c && b)) (lt-ltb (e c) noKey k) ∙ ap (λ (b : Bool). mine q || b) (and-one (eqb q c)))) (goes-in k)
         | inr k ↦
             subst (Sorted e (λ q. mine q || (eqb q c && keyed e c))) (sym (pass-top e c xs (λ v. omega (arith, f .most v, k))))
             (retaken e mine (λ q. mine q || (eqb q c && keyed e c)) xs (λ q n. sym (ap (λ (b : Bool). mine q || (eqb q c && b)) (le-ltb (e c) noKey k) ∙ none (mine q) (eqb q c))) s)
@@ -245,8 +256,10 @@ module _ (e e′ : ℕ → ℕ) (xs : List ℕ) (place : ℕ) (l : place < Limit
   in-the-end q =
       elim (hit (placeOf q) place) [
         | inr n ↦
-            ap (λ (b : Bool). (((keyed e q && not b) || (eqb q (lowMark place) && keyed e′ (lowMark place))) || (eqb q (highMark place) && keyed e′ (highMark place)))) (ne-eqb (placeOf q) place (n .0))
-            ∙ ap (λ (b : Bool). (((keyed e q && true) || (b && keyed e′ (lowMark place))) || (eqb q (highMark place) && keyed e′ (highMark place)))) (ne-eqb q (lowMark place) (λ p. n .0 (omega arith)))
+            ap (λ (b : Bool). (((keyed e q && not b) || (eqb q (lowMark place) && keyed e′ (lowMark place))) || (eqb q (highMark place) && keyed e′ (highMark place))))
+            (ne-eqb (placeOf q) place (n .0))
+            ∙ ap (λ (b : Bool). (((keyed e q && true) || (b && keyed e′ (lowMark place))) || (eqb q (highMark place) && keyed e′ (highMark place))))
+            (ne-eqb q (lowMark place) (λ p. n .0 (omega arith)))
             ∙ ap (λ (b : Bool). (((keyed e q && true) || false) || (b && keyed e′ (highMark place)))) (ne-eqb q (highMark place) (λ p. n .0 (omega arith)))
             ∙ plain (keyed e q) ∙ ap (λ (k : ℕ). ltb k noKey) (stay q (n .0))
         | inl y ↦

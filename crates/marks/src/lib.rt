@@ -1,5 +1,5 @@
 // End marks: document 01's order of marks, and their keys: one unsigned number a mark, made once from an axis's values and compared ever after.
-// One lent buffer has the marks, each axis in its own part: `ordering` tests whether it is in place, `reordering` keeps it so.
+// One lent buffer has the marks, each axis in its own part: `marks_test` tests whether it is in place, `marks_keep` keeps it so.
 ghost use mathlib.Core.Path.{_≡_};
 ghost use Prim.Native.Nat.{_<_};
 ghost use Rattle.limits.specs.Limits;

@@ -4,22 +4,22 @@ use Prim.Native.Nat.{ℕ}
 use mathlib.Core.Path.{_≡_, refl, sym, subst}
 use mathlib.Core.List.{List}
 use lib.IntN.{ℤ}
-use Rattle.state.specs.Desk.{Desk}
-use Rattle.spoils.specs.declared.Cell.{Cell}
-use Rattle.commands.specs.declared.Command.{Command}
-use Rattle.commands.specs.declared.Command.the-variants.{Tell, Ask, Spoil, Other}
-use Rattle.commands.specs.declared.Told.{Told}
-use Rattle.commands.specs.declared.Asked.{Asked}
-use Rattle.commands.specs.declared.Other.{Other as OtherCommand}
-use Rattle.panel.specs.Does.{Tells}
-use Rattle.mudwicket.specs.Answered.{Found, ByCommand, Answered}
+use Rattle.desk_state.specs.Desk.{Desk}
+use Rattle.line_spoil.specs.declared.Cell.{Cell}
+use Rattle.desk.specs.declared.Command.{Command}
+use Rattle.line_command.specs.declared.Line.{Line}
+use Rattle.line_command.specs.declared.Line.the-variants.{Tell, Ask, Spoil, Other}
+use Rattle.line_command.specs.declared.Asked.{Asked}
+use Rattle.line_command.specs.declared.Other.{Other as OtherLine}
+use Rattle.line_tell.specs.Tells.{Tells}
+use Rattle.mudwicket.specs.Answered.{Found, ByLine, Answered}
 
-module _ {kind : ℕ} {line : List ℕ} {room numbers : List ℤ} {c : Command} (f : Found kind line room numbers c) where
-  by : (m : ℕ) (before after : Desk) (other : Command) → c ≡ other → ByCommand other numbers m before after → Answered kind line room m before after
-  by m before after other e h = record { command = c; numbers = numbers; found = f; does = subst (λ (q : Command). ByCommand q numbers m before after) (sym e) h }
+module _ {kind : ℕ} {line : List ℕ} {room numbers : List ℤ} {c : Line} (f : Found kind line room numbers c) where
+  by : (m : ℕ) (before after : Desk) (other : Line) → c ≡ other → ByLine other numbers m before after → Answered kind line room m before after
+  by m before after other e h = record { says = c; numbers = numbers; found = f; does = subst (λ (q : Line). ByLine q numbers m before after) (sym e) h }
 
-  pub answered-told : {m : ℕ} {before after : Desk} {told : Told} → c ≡ Tell told → Tells told numbers m before after → Answered kind line room m before after
-  answered-told {m} {before} {after} {told} e h = by m before after (Tell told) e h
+  pub answered-told : {m : ℕ} {before after : Desk} {command : Command} {count : ℕ} → c ≡ Tell command count → Tells command count numbers m before after → Answered kind line room m before after
+  answered-told {m} {before} {after} {command} {count} e h = by m before after (Tell command count) e h
 
   pub answered-asked : (m : ℕ) (d : Desk) {asked : Asked} → c ≡ Ask asked → Answered kind line room m d d
   answered-asked m d {asked} e = by m d d (Ask asked) e refl
@@ -27,5 +27,5 @@ module _ {kind : ℕ} {line : List ℕ} {room numbers : List ℤ} {c : Command} 
   pub answered-spoiled : (m : ℕ) (before after : Desk) {cell : Cell} → c ≡ Spoil cell → Answered kind line room m before after
   answered-spoiled m before after {cell} e = by m before after (Spoil cell) e tt
 
-  pub answered-other : (m : ℕ) (d : Desk) {other : OtherCommand} → c ≡ Other other → Answered kind line room m d d
+  pub answered-other : (m : ℕ) (d : Desk) {other : OtherLine} → c ≡ Other other → Answered kind line room m d d
   answered-other m d {other} e = by m d d (Other other) e refl

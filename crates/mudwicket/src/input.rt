@@ -4,7 +4,7 @@ ghost use Prim.Native.Nat.{_≤_, _+_};
 ghost use lib.ListN.{length};
 ghost use Rattle.mudwicket.specs.Held.{Held};
 
-// "Lines up to 16,384 bytes are answered".
+// "A line of more than 16,384 bytes gets one `?`" (docs/COMMANDS.md).
 pub const MOST: usize = 16384;
 
 // What a turn found: nothing to answer; a line; a line that is too long; that more has to be read; the last line.

@@ -6,10 +6,10 @@ mod input;
 ghost use lib.ListN.{length};
 ghost use Rattle.mudwicket.specs.Held.{Held};
 use input::State;
-use lines::lent;
-use lines::out;
-use panel::fresh;
-use readings::texts;
+use line::lent;
+use line::out;
+use line_read::texts;
+use line_tell::fresh;
 
 // What is lent to every line: the bytes that were read, the answers that were not written yet, room for a command's texts and for its
 // numbers, how much of it is lent, and the desk, which starts afresh.
@@ -19,32 +19,20 @@ fn main() {
     let mut texts = texts::buffer();
     let mut numbers = lent::numbers();
     let mut lent = lent::start();
-    let mut counts = [0u8; limits::SHAPES];
-    let mut corners = [0i32; limits::CORNER_NUMBERS];
-    let mut poses = [0u8; limits::POSE_NUMBERS];
-    let mut offsets = [0i32; limits::OFFSET_NUMBERS];
+    let mut shapes = [0i32; limits::SHAPES_LENGTH];
+    let mut places = [0i32; limits::PLACES_LENGTH];
     let mut rows = [0u8; limits::ROWS];
     let mut book = [0u32; limits::BOOK];
     let mut marks = lent::marks();
-    fresh(
-        &mut counts,
-        &mut corners,
-        &mut poses,
-        &mut offsets,
-        &mut rows,
-        &mut book,
-        &mut marks,
-    );
+    fresh(&mut shapes, &mut places, &mut rows, &mut book, &mut marks);
     run(
         &mut input,
         &mut out,
         &mut texts,
         &mut numbers,
         &mut lent,
-        &mut counts,
-        &mut corners,
-        &mut poses,
-        &mut offsets,
+        &mut shapes,
+        &mut places,
         &mut rows,
         &mut book,
         &mut marks,
@@ -59,10 +47,8 @@ fn run(
     texts: &mut [u8],
     numbers: &mut [i32],
     lent: &mut [usize; 2],
-    counts: &mut [u8; limits::SHAPES],
-    corners: &mut [i32; limits::CORNER_NUMBERS],
-    poses: &mut [u8; limits::POSE_NUMBERS],
-    offsets: &mut [i32; limits::OFFSET_NUMBERS],
+    shapes: &mut [i32; limits::SHAPES_LENGTH],
+    places: &mut [i32; limits::PLACES_LENGTH],
     rows: &mut [u8; limits::ROWS],
     book: &mut [u32; limits::BOOK],
     marks: &mut [u16],
@@ -80,10 +66,8 @@ fn run(
             texts,
             numbers,
             lent,
-            counts,
-            corners,
-            poses,
-            offsets,
+            shapes,
+            places,
             rows,
             book,
             marks,
@@ -102,10 +86,8 @@ fn respond(
     texts: &mut [u8],
     numbers: &mut [i32],
     lent: &mut [usize; 2],
-    counts: &mut [u8; limits::SHAPES],
-    corners: &mut [i32; limits::CORNER_NUMBERS],
-    poses: &mut [u8; limits::POSE_NUMBERS],
-    offsets: &mut [i32; limits::OFFSET_NUMBERS],
+    shapes: &mut [i32; limits::SHAPES_LENGTH],
+    places: &mut [i32; limits::PLACES_LENGTH],
     rows: &mut [u8; limits::ROWS],
     book: &mut [u32; limits::BOOK],
     marks: &mut [u16],
@@ -126,10 +108,8 @@ fn respond(
         texts,
         numbers,
         lent,
-        counts,
-        corners,
-        poses,
-        offsets,
+        shapes,
+        places,
         rows,
         book,
         marks,

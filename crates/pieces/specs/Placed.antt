@@ -8,10 +8,11 @@ use native.Mathlib.Omega.{arith}
 use native.Mathlib.Numerals.{add-one}
 use lib.ListN.{length, getD, take, drop, set, replicate}
 use lib.Seq.{take-suc-set, drop-set-lt, drop-drop}
-use lib.IntN.{ℤ, pos}
+use lib.IntN.{ℤ, pos, natAbs}
 use lib.Signed.{ltZ}
 use Rattle.ints.specs.Bounds.{Within}
 use Rattle.limits.specs.Limits
+use Rattle.limits.specs.Numbered.{Numbered}
 use Rattle.turns.specs.Turns.{placedAt}
 use Rattle.turns.specs.Range.{placed-within}
 use Rattle.pieces.specs.declared.placed.Pose.{Pose}
@@ -20,39 +21,48 @@ use Rattle.pieces.specs.Pieces
 
 -- coordinate `axis` of corner i
 abbrev pub cornerNumber : List ℤ → Pose → ℕ → ℤ
-cornerNumber corners pose k = getD corners (pose .start + k) (pos 0)
+cornerNumber shapes pose k = getD shapes (pose .start + k) (pos 0)
+
+abbrev pub offsetNumber : List ℤ → ℕ → ℕ → ℤ
+offsetNumber places place axis = getD places (Limits.placeCells * place + 2 + axis) (pos 0)
 
 unfoldable pub numberAt : List ℤ → List ℤ → Pose → ℕ → ℕ → ℕ → ℤ
-numberAt corners offsets pose place i axis =
-    placedAt (pose .turn) axis (cornerNumber corners pose (3 * i)) (cornerNumber corners pose (3 * i + 1)) (cornerNumber corners pose (3 * i + 2)) (getD offsets (3 * place + axis) (pos 0))
+numberAt shapes places pose place i axis =
+    placedAt (pose .turn) axis (cornerNumber shapes pose (3 * i)) (cornerNumber shapes pose (3 * i + 1)) (cornerNumber shapes pose (3 * i + 2)) (offsetNumber places place axis)
 
--- what is asked: a shape within the corners, near, a turn, a near offset
-pub record Held (corners offsets : List ℤ) (pose : Pose) (place : ℕ) : Type 0 where
+-- what is asked: a shape within the array, near, a turn, a near offset
+pub record Held (shapes places : List ℤ) (pose : Pose) (place : ℕ) : Type 0 where
   pub place< : place < Limits.places
   pub some : 1 ≤ pose .count
   pub few : pose .count ≤ Limits.corners
-  pub inside : pose .start + Limits.shapeNumbers ≤ Limits.cornerNumbers
+  pub inside : pose .start + Limits.shapeNumbers ≤ Limits.shapesLength
   pub turn : pose .turn < Limits.turns
-  pub near : (k : ℕ) → k < 3 * pose .count → Within Limits.shapeReach (cornerNumber corners pose k)
-  pub offset : (axis : ℕ) → axis < 3 → Within Limits.shapeReach (getD offsets (3 * place + axis) (pos 0))
+  pub near : (k : ℕ) → k < 3 * pose .count → Within Limits.shapeReach (cornerNumber shapes pose k)
+  pub offset : (axis : ℕ) → axis < 3 → Within Limits.shapeReach (offsetNumber places place axis)
 
-pub record EndsOf (corners offsets : List ℤ) (pose : Pose) (place axis : ℕ) (r : Ends) : Type 0 where
-  pub low : r .low ≡ Pieces.leastTo (pose .count) (λ i. numberAt corners offsets pose place i axis)
-  pub high : r .high ≡ Pieces.greatestTo (pose .count) (λ i. numberAt corners offsets pose place i axis)
+pub record EndsOf (shapes places : List ℤ) (pose : Pose) (place axis : ℕ) (r : Ends) : Type 0 where
+  pub low : r .low ≡ Pieces.leastTo (pose .count) (λ i. numberAt shapes places pose place i axis)
+  pub high : r .high ≡ Pieces.greatestTo (pose .count) (λ i. numberAt shapes places pose place i axis)
 
 -- the piece's numbers in front of an array, and 0 after them
-pub record NumbersOf (corners offsets : List ℤ) (pose : Pose) (place : ℕ) (r : List ℤ) : Type 0 where
-  pub is : take (3 * pose .count) r ≡ Pieces.listTo (3 * pose .count) (λ k. numberAt corners offsets pose place (k / 3) (k % 3))
+pub record NumbersOf (shapes places : List ℤ) (pose : Pose) (place : ℕ) (r : List ℤ) : Type 0 where
+  pub is : take (3 * pose .count) r ≡ Pieces.listTo (3 * pose .count) (λ k. numberAt shapes places pose place (k / 3) (k % 3))
   pub rest : drop (3 * pose .count) r ≡ replicate (Limits.shapeNumbers - 3 * pose .count) (pos 0)
 
 -- the pose of a place, and what reading it asks
-abbrev pub poseOf : List ℕ → List ℕ → ℕ → Pose
-poseOf counts poses place = record { start = (getD poses (2 * place) 0 - 1) * Limits.shapeNumbers; count = getD counts (getD poses (2 * place) 0 - 1) 0; turn = getD poses (2 * place + 1) 0 }
+abbrev pub poseOf : List ℤ → List ℤ → ℕ → Pose
+poseOf shapes places place = record {
+  start = (natAbs (Pieces.heldIn places place) - 1) * Limits.shapeCells + 1;
+  count = natAbs (Pieces.countIn shapes (natAbs (Pieces.heldIn places place) - 1));
+  turn = natAbs (Pieces.turnIn places place);
+}
 
-pub record PoseAsked (counts poses : List ℕ) (place : ℕ) : Type 0 where
+pub record PoseAsked (shapes places : List ℤ) (place : ℕ) : Type 0 where
   pub place< : place < Limits.places
-  pub some : getD poses (2 * place) 0 ≡ 0 → ⊥
-  pub shape : getD poses (2 * place) 0 - 1 < Limits.shapes
+  pub some : natAbs (Pieces.heldIn places place) ≡ 0 → ⊥
+  pub shape : Numbered (Limits.shapes + 1) (Pieces.heldIn places place)
+  pub turn : Numbered Limits.turns (Pieces.turnIn places place)
+  pub count : Numbered (Limits.corners + 1) (Pieces.countIn shapes (natAbs (Pieces.heldIn places place) - 1))
 
 -- ---- one more of a list, of a least, of a greatest
 pub list-more : {A : Type 0} (n : ℕ) (f : ℕ → A) → Pieces.listTo (n + 1) f ≡ Pieces.listTo n f ++ (f n ∷ [])
@@ -79,31 +89,28 @@ greatest-more zero f h = absurd (omega arith)
 greatest-more (suc n) f h = ap (λ k. Pieces.greatestTo k f) (add-one (suc n))
 
 -- ---- a least and a greatest is one of them, so it is as near as they are
+pub pick : {m : ℕ} (b : Bool) {u v : ℤ} → Within m u → Within m v → Within m (cond b u v)
+pick true a c = a
+pick false a c = c
+
 pub least-within : {m : ℕ} (n : ℕ) (f : ℕ → ℤ) → 1 ≤ n → ((i : ℕ) → i < n → Within m (f i)) → Within m (Pieces.leastTo n f)
 unfolding Pieces.leastTo
 least-within zero f h w = absurd (omega arith)
 least-within (suc zero) f h w = w 0 (omega arith)
-least-within {m} (suc (suc n)) f h w = pick (ltZ (f (suc n)) (Pieces.leastTo (suc n) f)) (w (suc n) (omega arith)) (least-within (suc n) f (omega arith) (λ i k. w i (omega arith)))
-  where
-    pick : (b : Bool) {u v : ℤ} → Within m u → Within m v → Within m (cond b u v)
-    pick true a c = a
-    pick false a c = c
+least-within (suc (suc n)) f h w = pick (ltZ (f (suc n)) (Pieces.leastTo (suc n) f)) (w (suc n) (omega arith)) (least-within (suc n) f (omega arith) (λ i k. w i (omega arith)))
 
 pub greatest-within : {m : ℕ} (n : ℕ) (f : ℕ → ℤ) → 1 ≤ n → ((i : ℕ) → i < n → Within m (f i)) → Within m (Pieces.greatestTo n f)
 unfolding Pieces.greatestTo
 greatest-within zero f h w = absurd (omega arith)
 greatest-within (suc zero) f h w = w 0 (omega arith)
-greatest-within {m} (suc (suc n)) f h w = pick (ltZ (Pieces.greatestTo (suc n) f) (f (suc n))) (w (suc n) (omega arith)) (greatest-within (suc n) f (omega arith) (λ i k. w i (omega arith)))
-  where
-    pick : (b : Bool) {u v : ℤ} → Within m u → Within m v → Within m (cond b u v)
-    pick true a c = a
-    pick false a c = c
+greatest-within (suc (suc n)) f h w = pick (ltZ (Pieces.greatestTo (suc n) f) (f (suc n))) (w (suc n) (omega arith)) (greatest-within (suc n) f (omega arith) (λ i k. w i (omega arith)))
 
 pub placed-eq : (turn axis : ℕ) {x x′ y y′ z z′ o o′ : ℤ} → x ≡ x′ → y ≡ y′ → z ≡ z′ → o ≡ o′ → placedAt turn axis x y z o ≡ placedAt turn axis x′ y′ z′ o′
 placed-eq turn axis ex ey ez eo = λ i. placedAt turn axis (ex i) (ey i) (ez i) (eo i)
 
 -- every number of a piece is near
-pub number-within : {corners offsets : List ℤ} {pose : Pose} {place : ℕ} → Held corners offsets pose place → (i axis : ℕ) → i < pose .count → axis < 3 → Within Limits.placedReach (numberAt corners offsets pose place i axis)
+pub number-within : {shapes places : List ℤ} {pose : Pose} {place : ℕ} → Held shapes places pose place → (i axis : ℕ) → i < pose .count → axis < 3
+    → Within Limits.placedReach (numberAt shapes places pose place i axis)
 unfolding numberAt
 number-within {pose} h i axis hi ha = placed-within (pose .turn) axis (h .near (3 * i) (omega arith)) (h .near (3 * i + 1) (omega arith)) (h .near (3 * i + 2) (omega arith)) (h .offset axis ha)
 

@@ -2,7 +2,7 @@
 -- And that a piece depends on its own place and shape alone.
 use mathlib.Core.Path.{_≡_, refl, sym, ap, ap₂, _∙_, subst}
 use mathlib.Core.List.{List, [], _∷_, _++_}
-use mathlib.Core.Bool.{Bool, true, false, not, cond}
+use mathlib.Core.Bool.{Bool, true, false, not}
 use mathlib.Core.Logic.{_⊎_, ⊎-elim}
 use Prim.Native.Nat.{ℕ, zero, suc, _+_, _-_, _*_, _/_, _%_, _≤_, _<_}
 use native.Mathlib.Omega.{arith}
@@ -10,47 +10,45 @@ use native.Mathlib.Numerals.{add-one}
 use lib.Dec.{eqb}
 use lib.ListN.{length, getD, length-append, List·getD-append}
 use lib.Seq.{getD-append-add}
-use lib.IntN.{ℤ, pos}
+use lib.IntN.{ℤ, pos, natAbs}
 use Rattle.ints.specs.Bounds.{Within}
 use Rattle.ints.specs.Order.{lt-or-ge}
 use Rattle.limits.specs.Limits
 use Rattle.space.specs.Lists.{Placed}
-use Rattle.rows.specs.Rows.{Taken}
-use Rattle.rows.specs.Cells.{taken-decided}
 use Rattle.turns.specs.Turns.{placedAt}
 use Rattle.marks.specs.Marks.{axisOf, placeOf, sideOf, RangedMarks}
 use Rattle.marks.specs.Order.{mark-low}
-use Rattle.pieces.specs.Pieces.{Store, PiecesInOrder, cornersOf, shapeNumber, shapeAt, turnAt, offsetAt, countAt, placedCorner, listTo, pieceAt, leastTo, greatestTo, lesser, greater, lowAt, highAt, takenAt, axesOf}
-use Rattle.pieces.specs.Placed.{numberAt, Held, poseOf, PoseAsked, number-within, least-within, greatest-within, placed-eq}
+use Rattle.pieces.specs.Pieces.{Store, Taken, PiecesInOrder, heldIn, turnIn, cornersOf, shapeNumber, shapeAt, turnAt, offsetAt, countAt, placedCorner, listTo, pieceAt, leastTo, greatestTo, lesser, greater, lowAt, highAt, takenAt, axesOf}
+use Rattle.pieces.specs.Taking.{taken-decided}
+use Rattle.pieces.specs.Placed.{numberAt, Held, poseOf, PoseAsked, number-within, pick, least-within, greatest-within, placed-eq}
 
 -- ---- what a taken place is asked with
-pub asked : {d : Store} → PiecesInOrder d → (p : ℕ) → Taken (d .poses) p → PoseAsked (d .counts) (d .poses) p
-asked o p t = record { place< = t .place; some = t .holds; shape = o .places .all p t .loaded .shape }
+pub asked : {d : Store} → PiecesInOrder d → (p : ℕ) → Taken (d .places) p → PoseAsked (d .shapes) (d .places) p
+asked {d} o p t =
+    let k = o .places .all p t in
+    record { place< = t .place; some = t .holds; shape = k .shape; turn = k .turn; count = o .shapes .few (shapeAt d p) (k .loaded .shape) }
 
-pub held : {d : Store} → PiecesInOrder d → (p : ℕ) → Taken (d .poses) p → Held (d .corners) (d .offsets) (poseOf (d .counts) (d .poses) p) p
+pub held : {d : Store} → PiecesInOrder d → (p : ℕ) → Taken (d .places) p → Held (d .shapes) (d .places) (poseOf (d .shapes) (d .places) p) p
 held {d} o p t =
     let k = o .places .all p t in
     let s = k .loaded .shape in
+    let few = o .shapes .few (shapeAt d p) s .below in
     record {
       place< = t .place;
-      some = some-count (cornersOf d (shapeAt d p)) (k .loaded .some);
-      few = o .shapes .few (shapeAt d p) s;
+      some = omega (arith, k .loaded .some);
+      few = omega arith;
       inside = omega arith;
-      turn = k .turn;
+      turn = k .turn .below;
       near = λ n h. o .shapes .near (shapeAt d p) n s h;
       offset = k .offset;
     }
-  where
-    some-count : (n : ℕ) → (n ≡ 0 → ⊥) → 1 ≤ n
-    some-count zero f = absurd (f refl)
-    some-count (suc n) f = omega arith
 
 -- the numbers read are the placed corners
-pub number-is : (d : Store) (p i axis : ℕ) → numberAt (d .corners) (d .offsets) (poseOf (d .counts) (d .poses) p) p i axis ≡ placedCorner d p i axis
+pub number-is : (d : Store) (p i axis : ℕ) → numberAt (d .shapes) (d .places) (poseOf (d .shapes) (d .places) p) p i axis ≡ placedCorner d p i axis
 unfolding numberAt placedCorner
 number-is d p i axis = refl
 
-pub corner-within : {d : Store} → PiecesInOrder d → (p i axis : ℕ) → Taken (d .poses) p → i < countAt d p → axis < 3 → Within Limits.placedReach (placedCorner d p i axis)
+pub corner-within : {d : Store} → PiecesInOrder d → (p i axis : ℕ) → Taken (d .places) p → i < countAt d p → axis < 3 → Within Limits.placedReach (placedCorner d p i axis)
 corner-within {d} o p i axis t hi ha = subst (Within Limits.placedReach) (number-is d p i axis) (number-within (held o p t) i axis hi ha)
 
 -- ---- lists of the first n values
@@ -88,28 +86,32 @@ greatest-same (suc zero) f g h = h 0 (omega arith)
 greatest-same (suc (suc n)) f g h = ap₂ greater (h (suc n) (omega arith)) (greatest-same (suc n) f g (λ k l. h k (omega arith)))
 
 -- ---- the piece at a taken place is a list of placed corners
-pub piece-placed : {d : Store} → PiecesInOrder d → (p : ℕ) → Taken (d .poses) p → Placed (pieceAt d p)
+pub piece-placed : {d : Store} → PiecesInOrder d → (p : ℕ) → Taken (d .places) p → Placed (pieceAt d p)
 piece-placed {d} o p t =
     let h = held o p t in
     let n = countAt d p in
     let size = list-length (3 * n) (λ k. placedCorner d p (k / 3) (k % 3)) in
     record {
       fits = record { count = n; least = h .some; most = h .few; is = size };
-      near = record { all = λ k l. subst (Within Limits.placedReach) (sym (list-at (3 * n) (λ j. placedCorner d p (j / 3) (j % 3)) (pos 0) k (subst (λ m. k < m) size l))) (corner-within o p (k / 3) (k % 3) t (let l′ : k < 3 * n = subst (λ m. k < m) size l in omega arith) (omega arith)) };
+      near =
+          record {
+            all = λ k l. subst (Within Limits.placedReach) (sym (list-at (3 * n) (λ j. placedCorner d p (j / 3) (j % 3)) (pos 0) k (subst (λ m. k < m) size l)))
+                (corner-within o p (k / 3) (k % 3) t (let l′ : k < 3 * n = subst (λ m. k < m) size l in omega arith) (omega arith));
+          };
     }
 
 -- ---- a place is taken where the definition says so
-pub taken-of : (d : Store) (p : ℕ) → p < Limits.places → takenAt d p ≡ true → Taken (d .poses) p
-taken-of d p h e = taken-decided (d .poses) p h .yes e
+pub taken-of : (d : Store) (p : ℕ) → p < Limits.places → takenAt d p ≡ true → Taken (d .places) p
+taken-of d p h e = taken-decided (d .places) p h .yes e
 
-pub taken-is : (d : Store) (p : ℕ) → Taken (d .poses) p → takenAt d p ≡ true
+pub taken-is : (d : Store) (p : ℕ) → Taken (d .places) p → takenAt d p ≡ true
 taken-is d p t = go (takenAt d p) refl
   where
     go : (b : Bool) → takenAt d p ≡ b → b ≡ true
     go true e = refl
-    go false e = absurd (taken-decided (d .poses) p (t .place) .no e t)
+    go false e = absurd (taken-decided (d .places) p (t .place) .no e t)
 
-pub empty-is : (d : Store) (p : ℕ) → p < Limits.places → (Taken (d .poses) p → ⊥) → takenAt d p ≡ false
+pub empty-is : (d : Store) (p : ℕ) → p < Limits.places → (Taken (d .places) p → ⊥) → takenAt d p ≡ false
 empty-is d p h f = go (takenAt d p) refl
   where
     go : (b : Bool) → takenAt d p ≡ b → b ≡ false
@@ -117,10 +119,10 @@ empty-is d p h f = go (takenAt d p) refl
     go true e = absurd (f (taken-of d p h e))
 
 -- ---- the ends of taken places are in range
-pub low-within : {d : Store} → PiecesInOrder d → (p axis : ℕ) → Taken (d .poses) p → axis < 3 → Within Limits.placedReach (lowAt d axis p)
+pub low-within : {d : Store} → PiecesInOrder d → (p axis : ℕ) → Taken (d .places) p → axis < 3 → Within Limits.placedReach (lowAt d axis p)
 low-within {d} o p axis t ha = least-within (countAt d p) (λ i. placedCorner d p i axis) (held o p t .some) (λ i h. corner-within o p i axis t h ha)
 
-pub high-within : {d : Store} → PiecesInOrder d → (p axis : ℕ) → Taken (d .poses) p → axis < 3 → Within Limits.placedReach (highAt d axis p)
+pub high-within : {d : Store} → PiecesInOrder d → (p axis : ℕ) → Taken (d .places) p → axis < 3 → Within Limits.placedReach (highAt d axis p)
 high-within {d} o p axis t ha = greatest-within (countAt d p) (λ i. placedCorner d p i axis) (held o p t .some) (λ i h. corner-within o p i axis t h ha)
 
 pub ranged : {d : Store} → PiecesInOrder d → RangedMarks (axesOf d)
@@ -129,15 +131,11 @@ ranged {d} o axis ha mark m =
     let low = k .0 in
     let t = taken-of d (placeOf mark) (omega arith) (k .1) in
     pick (eqb (sideOf mark) 0) (low-within o (placeOf mark) axis t ha) (high-within o (placeOf mark) axis t ha)
-  where
-    pick : (b : Bool) {u v : ℤ} → Within Limits.placedReach u → Within Limits.placedReach v → Within Limits.placedReach (cond b u v)
-    pick true a c = a
-    pick false a c = c
 
 -- ---- a piece depends on its own place and shape alone
 pub record SameAt (d e : Store) (p : ℕ) : Type 0 where
-  pub shape : getD (d .poses) (2 * p) 0 ≡ getD (e .poses) (2 * p) 0
-  pub turn : turnAt d p ≡ turnAt e p
+  pub shape : heldIn (d .places) p ≡ heldIn (e .places) p
+  pub turn : turnIn (d .places) p ≡ turnIn (e .places) p
   pub offset : (axis : ℕ) → axis < 3 → offsetAt d p axis ≡ offsetAt e p axis
   pub count : countAt d p ≡ countAt e p
   pub numbers : (k : ℕ) → k < 3 * countAt d p → shapeNumber d (shapeAt d p) k ≡ shapeNumber e (shapeAt e p) k
@@ -146,7 +144,7 @@ module _ {d e : Store} {p : ℕ} (s : SameAt d e p) where
   same-corner : (i axis : ℕ) → i < countAt d p → axis < 3 → placedCorner d p i axis ≡ placedCorner e p i axis
   unfolding placedCorner
   same-corner i axis hi ha =
-      ap₂ (λ t o. placedAt t axis (shapeNumber d (shapeAt d p) (3 * i)) (shapeNumber d (shapeAt d p) (3 * i + 1)) (shapeNumber d (shapeAt d p) (3 * i + 2)) o) (s .turn) (s .offset axis ha)
+      ap₂ (λ t o. placedAt t axis (shapeNumber d (shapeAt d p) (3 * i)) (shapeNumber d (shapeAt d p) (3 * i + 1)) (shapeNumber d (shapeAt d p) (3 * i + 2)) o) (ap natAbs (s .turn)) (s .offset axis ha)
       ∙ placed-eq (turnAt e p) axis (s .numbers (3 * i) (omega arith)) (s .numbers (3 * i + 1) (omega arith)) (s .numbers (3 * i + 2) (omega arith)) refl
 
   pub same-piece : pieceAt d p ≡ pieceAt e p
@@ -165,4 +163,4 @@ module _ {d e : Store} {p : ℕ} (s : SameAt d e p) where
       ∙ ap (λ n. greatestTo n (λ i. placedCorner e p i axis)) (s .count)
 
   pub same-taken : takenAt d p ≡ takenAt e p
-  same-taken = ap (λ n. not (eqb n 0)) (s .shape)
+  same-taken = ap (λ (z : ℤ). not (eqb (natAbs z) 0)) (s .shape)

@@ -10,23 +10,21 @@ ghost use Rattle.marks.specs.Keys.{keyAt, Keyed};
 ghost use Rattle.pieces.specs.Pieces.{storeOf, axesOf, PiecesInOrder};
 ghost use Rattle.pieces.specs.Boxes.{Piece};
 use crate::placed::piece_ends;
+use crate::taking::is_taken;
 use marks::NO_KEY;
 use marks::mark_key;
-use rows::is_taken;
 
 // The value of a mark of a taken place.
 fn mark_value(
-    counts: &[u8; limits::SHAPES],
-    corners: &[i32; limits::CORNER_NUMBERS],
-    poses: &[u8; limits::POSE_NUMBERS],
-    offsets: &[i32; limits::OFFSET_NUMBERS],
+    shapes: &[i32; limits::SHAPES_LENGTH],
+    places: &[i32; limits::PLACES_LENGTH],
     axis: usize,
     mark: usize,
 ) -> i32
-    requires { ⌜ Piece (storeOf (now counts) (now corners) (now poses) (now offsets)) (mark / 2) × (axis < 3) ⌝ }
-    ensures { λ r. ⌜ (r ≡ valueOf (axisOf (axesOf (storeOf (now (counts .entry)) (now (corners .entry)) (now (poses .entry)) (now (offsets .entry)))) axis) mark) × Within Limits.placedReach r ⌝ }
+    requires { ⌜ Piece (storeOf (now shapes) (now places)) (mark / 2) × (axis < 3) ⌝ }
+    ensures { λ r. ⌜ (r ≡ valueOf (axisOf (axesOf (storeOf (now (shapes .entry)) (now (places .entry)))) axis) mark) × Within Limits.placedReach r ⌝ }
 {
-    let e = piece_ends(counts, corners, poses, offsets, mark / 2, axis);
+    let e = piece_ends(shapes, places, mark / 2, axis);
     let low = e.low;
     let high = e.high;
     if mark % 2 == 0 {
@@ -37,18 +35,16 @@ fn mark_value(
 
 // The key of a mark, above every other where its place is empty.
 fn key_for(
-    counts: &[u8; limits::SHAPES],
-    corners: &[i32; limits::CORNER_NUMBERS],
-    poses: &[u8; limits::POSE_NUMBERS],
-    offsets: &[i32; limits::OFFSET_NUMBERS],
+    shapes: &[i32; limits::SHAPES_LENGTH],
+    places: &[i32; limits::PLACES_LENGTH],
     axis: usize,
     mark: usize,
 ) -> u32
-    requires { ⌜ PiecesInOrder (storeOf (now counts) (now corners) (now poses) (now offsets)) × (axis < 3) × (mark < Limits.axisMarks) ⌝ }
-    ensures { λ r. ⌜ r ≡ keyAt (axisOf (axesOf (storeOf (now (counts .entry)) (now (corners .entry)) (now (poses .entry)) (now (offsets .entry)))) axis) mark ⌝ }
+    requires { ⌜ PiecesInOrder (storeOf (now shapes) (now places)) × (axis < 3) × (mark < Limits.axisMarks) ⌝ }
+    ensures { λ r. ⌜ r ≡ keyAt (axisOf (axesOf (storeOf (now (shapes .entry)) (now (places .entry)))) axis) mark ⌝ }
 {
-    if is_taken(poses, mark / 2) {
-        let value = mark_value(counts, corners, poses, offsets, axis, mark);
+    if is_taken(places, mark / 2) {
+        let value = mark_value(shapes, places, axis, mark);
         return mark_key(value, mark);
     }
     NO_KEY
@@ -62,19 +58,17 @@ fn no_keys() -> [u32; limits::AXIS_MARKS]
 
 // The keys of one axis.
 pub fn keys_of(
-    counts: &[u8; limits::SHAPES],
-    corners: &[i32; limits::CORNER_NUMBERS],
-    poses: &[u8; limits::POSE_NUMBERS],
-    offsets: &[i32; limits::OFFSET_NUMBERS],
+    shapes: &[i32; limits::SHAPES_LENGTH],
+    places: &[i32; limits::PLACES_LENGTH],
     axis: usize,
 ) -> [u32; limits::AXIS_MARKS]
-    requires { ⌜ PiecesInOrder (storeOf (now counts) (now corners) (now poses) (now offsets)) × (axis < 3) ⌝ }
-    ensures { λ r. ⌜ Keyed (axisOf (axesOf (storeOf (now (counts .entry)) (now (corners .entry)) (now (poses .entry)) (now (offsets .entry)))) axis) r ⌝ }
+    requires { ⌜ PiecesInOrder (storeOf (now shapes) (now places)) × (axis < 3) ⌝ }
+    ensures { λ r. ⌜ Keyed (axisOf (axesOf (storeOf (now (shapes .entry)) (now (places .entry)))) axis) r ⌝ }
 {
     let mut keys = no_keys();
     let mut mark = 0;
     while mark < limits::AXIS_MARKS {
-        let key = key_for(counts, corners, poses, offsets, axis, mark);
+        let key = key_for(shapes, places, axis, mark);
         keys[mark] = key;
         mark += 1;
     }

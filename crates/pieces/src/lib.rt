@@ -1,4 +1,7 @@
-// Shapes and places as lent arrays: the placed corners of a piece, and its ends on each axis.
-// What is asked of a lent array is asked by `Store` of specs/Pieces.antt, which reads like document 01.
+// Shapes and places as the desk lends them, and the pieces that they make: taken places, placed corners, ends, boxes, and the keys of their marks.
+// The functions over pieces ask for shapes and places in order; the order test itself is in a crate of its own.
+pub mod index;
 pub mod keys;
 pub mod placed;
+pub mod placement;
+pub mod taking;

@@ -10,6 +10,7 @@ ghost use Rattle.limits.specs.Decides.{Decides};
 ghost use Rattle.pieces.specs.Pieces.{lesser, greater, storeOf, countAt};
 ghost use Rattle.pieces.specs.Boxes.{Piece, Numbers, EndsAt, ApartOn, Apart};
 ghost use Rattle.pieces.specs.Placed.{numberAt, Held, NumbersOf, PoseAsked, poseOf, EndsOf};
+use crate::index::index_of;
 use turns::placed_axis;
 
 // The least and the greatest placed corner on one axis.
@@ -18,17 +19,11 @@ pub struct Ends {
     pub high: i32,
 }
 
-// Where a piece's shape starts in the corners, how many corners it has, and its turn.
+// Where the numbers of a piece's shape start, how many corners it has, and its turn.
 pub struct Pose {
     pub start: usize,
     pub count: usize,
     pub turn: usize,
-}
-
-fn wide(x: u8) -> usize
-    ensures { λ r. ⌜ r ≡ x ⌝ }
-{
-    x as usize
 }
 
 fn lesser(a: i32, b: i32) -> i32
@@ -51,43 +46,43 @@ fn greater(a: i32, b: i32) -> i32
 
 // Coordinate `axis` of corner i of a piece.
 fn placed_number(
-    corners: &[i32; limits::CORNER_NUMBERS],
-    offsets: &[i32; limits::OFFSET_NUMBERS],
+    shapes: &[i32; limits::SHAPES_LENGTH],
+    places: &[i32; limits::PLACES_LENGTH],
     pose: Pose,
     place: usize,
     i: usize,
     axis: usize,
 ) -> i32
-    requires { ⌜ Held (now corners) (now offsets) pose place × (i < pose .count) × (axis < 3) ⌝ }
-    ensures { λ r. ⌜ (r ≡ numberAt (now (corners .entry)) (now (offsets .entry)) pose place i axis) × Within Limits.placedReach r ⌝ }
+    requires { ⌜ Held (now shapes) (now places) pose place × (i < pose .count) × (axis < 3) ⌝ }
+    ensures { λ r. ⌜ (r ≡ numberAt (now (shapes .entry)) (now (places .entry)) pose place i axis) × Within Limits.placedReach r ⌝ }
 {
     let start = pose.start;
     let turn = pose.turn;
-    let x = corners[start + 3 * i];
-    let y = corners[start + (3 * i + 1)];
-    let z = corners[start + (3 * i + 2)];
-    let offset = offsets[3 * place + axis];
+    let x = shapes[start + 3 * i];
+    let y = shapes[start + (3 * i + 1)];
+    let z = shapes[start + (3 * i + 2)];
+    let offset = places[limits::PLACE_CELLS * place + 2 + axis];
     placed_axis(turn, axis, x, y, z, offset)
 }
 
 // The least and the greatest coordinate of a piece on an axis.
 fn ends_of(
-    corners: &[i32; limits::CORNER_NUMBERS],
-    offsets: &[i32; limits::OFFSET_NUMBERS],
+    shapes: &[i32; limits::SHAPES_LENGTH],
+    places: &[i32; limits::PLACES_LENGTH],
     pose: Pose,
     place: usize,
     axis: usize,
 ) -> Ends
-    requires { ⌜ Held (now corners) (now offsets) pose place × (axis < 3) ⌝ }
-    ensures { λ r. ⌜ EndsOf (now (corners .entry)) (now (offsets .entry)) pose place axis r ⌝ }
+    requires { ⌜ Held (now shapes) (now places) pose place × (axis < 3) ⌝ }
+    ensures { λ r. ⌜ EndsOf (now (shapes .entry)) (now (places .entry)) pose place axis r ⌝ }
 {
     let n = pose.count;
-    let first = placed_number(corners, offsets, pose, place, 0, axis);
+    let first = placed_number(shapes, places, pose, place, 0, axis);
     let mut low = first;
     let mut high = first;
     let mut i = 1;
     while i < n {
-        let v = placed_number(corners, offsets, pose, place, i, axis);
+        let v = placed_number(shapes, places, pose, place, i, axis);
         low = lesser(v, low);
         high = greater(v, high);
         i += 1;
@@ -106,19 +101,19 @@ fn no_numbers() -> [i32; limits::SHAPE_NUMBERS]
 
 // The placed corners of a piece, three numbers each; the rest of the array is 0.
 fn numbers_of(
-    corners: &[i32; limits::CORNER_NUMBERS],
-    offsets: &[i32; limits::OFFSET_NUMBERS],
+    shapes: &[i32; limits::SHAPES_LENGTH],
+    places: &[i32; limits::PLACES_LENGTH],
     pose: Pose,
     place: usize,
 ) -> [i32; limits::SHAPE_NUMBERS]
-    requires { ⌜ Held (now corners) (now offsets) pose place ⌝ }
-    ensures { λ r. ⌜ NumbersOf (now (corners .entry)) (now (offsets .entry)) pose place r ⌝ }
+    requires { ⌜ Held (now shapes) (now places) pose place ⌝ }
+    ensures { λ r. ⌜ NumbersOf (now (shapes .entry)) (now (places .entry)) pose place r ⌝ }
 {
     let n = pose.count;
     let mut numbers = no_numbers();
     let mut k = 0;
     while k < 3 * n {
-        let v = placed_number(corners, offsets, pose, place, k / 3, k % 3);
+        let v = placed_number(shapes, places, pose, place, k / 3, k % 3);
         numbers[k] = v;
         k += 1;
     }
@@ -126,15 +121,20 @@ fn numbers_of(
 }
 
 // What the arrays say of a taken place.
-fn pose_of(counts: &[u8; limits::SHAPES], poses: &[u8; limits::POSE_NUMBERS], place: usize) -> Pose
-    requires { ⌜ PoseAsked (now counts) (now poses) place ⌝ }
-    ensures { λ r. ⌜ r ≡ poseOf (now (counts .entry)) (now (poses .entry)) place ⌝ }
+fn pose_of(
+    shapes: &[i32; limits::SHAPES_LENGTH],
+    places: &[i32; limits::PLACES_LENGTH],
+    place: usize,
+) -> Pose
+    requires { ⌜ PoseAsked (now shapes) (now places) place ⌝ }
+    ensures { λ r. ⌜ r ≡ poseOf (now (shapes .entry)) (now (places .entry)) place ⌝ }
 {
-    let shape = wide(poses[2 * place]) - 1;
-    let turn = wide(poses[2 * place + 1]);
-    let count = wide(counts[shape]);
+    let held = index_of(places[limits::PLACE_CELLS * place], limits::SHAPES + 1);
+    let turn = index_of(places[limits::PLACE_CELLS * place + 1], limits::TURNS);
+    let cell = (held - 1) * limits::SHAPE_CELLS;
+    let count = index_of(shapes[cell], limits::CORNERS + 1);
     Pose {
-        start: shape * limits::SHAPE_NUMBERS,
+        start: cell + 1,
         count: count,
         turn: turn,
     }
@@ -142,65 +142,57 @@ fn pose_of(counts: &[u8; limits::SHAPES], poses: &[u8; limits::POSE_NUMBERS], pl
 
 // The placed corners of the piece at a taken place; the first three times its count are its numbers, and the rest is 0.
 pub fn piece_numbers(
-    counts: &[u8; limits::SHAPES],
-    corners: &[i32; limits::CORNER_NUMBERS],
-    poses: &[u8; limits::POSE_NUMBERS],
-    offsets: &[i32; limits::OFFSET_NUMBERS],
+    shapes: &[i32; limits::SHAPES_LENGTH],
+    places: &[i32; limits::PLACES_LENGTH],
     place: usize,
 ) -> [i32; limits::SHAPE_NUMBERS]
-    requires { ⌜ Piece (storeOf (now counts) (now corners) (now poses) (now offsets)) place ⌝ }
-    ensures { λ r. ⌜ Numbers (storeOf (now (counts .entry)) (now (corners .entry)) (now (poses .entry)) (now (offsets .entry))) place r ⌝ }
+    requires { ⌜ Piece (storeOf (now shapes) (now places)) place ⌝ }
+    ensures { λ r. ⌜ Numbers (storeOf (now (shapes .entry)) (now (places .entry))) place r ⌝ }
 {
-    let pose = pose_of(counts, poses, place);
-    numbers_of(corners, offsets, pose, place)
+    let pose = pose_of(shapes, places, place);
+    numbers_of(shapes, places, pose, place)
 }
 
 // How many corners it has.
 pub fn piece_count(
-    counts: &[u8; limits::SHAPES],
-    corners: &[i32; limits::CORNER_NUMBERS],
-    poses: &[u8; limits::POSE_NUMBERS],
-    offsets: &[i32; limits::OFFSET_NUMBERS],
+    shapes: &[i32; limits::SHAPES_LENGTH],
+    places: &[i32; limits::PLACES_LENGTH],
     place: usize,
 ) -> usize
-    requires { ⌜ Piece (storeOf (now counts) (now corners) (now poses) (now offsets)) place ⌝ }
-    ensures { λ r. ⌜ (r ≡ countAt (storeOf (now (counts .entry)) (now (corners .entry)) (now (poses .entry)) (now (offsets .entry))) place) × (r ≤ Limits.corners) ⌝ }
+    requires { ⌜ Piece (storeOf (now shapes) (now places)) place ⌝ }
+    ensures { λ r. ⌜ (r ≡ countAt (storeOf (now (shapes .entry)) (now (places .entry))) place) × (r ≤ Limits.corners) ⌝ }
 {
-    let pose = pose_of(counts, poses, place);
+    let pose = pose_of(shapes, places, place);
     pose.count
 }
 
 // Its ends on an axis.
 pub(crate) fn piece_ends(
-    counts: &[u8; limits::SHAPES],
-    corners: &[i32; limits::CORNER_NUMBERS],
-    poses: &[u8; limits::POSE_NUMBERS],
-    offsets: &[i32; limits::OFFSET_NUMBERS],
+    shapes: &[i32; limits::SHAPES_LENGTH],
+    places: &[i32; limits::PLACES_LENGTH],
     place: usize,
     axis: usize,
 ) -> Ends
-    requires { ⌜ Piece (storeOf (now counts) (now corners) (now poses) (now offsets)) place × (axis < 3) ⌝ }
-    ensures { λ r. ⌜ EndsAt (storeOf (now (counts .entry)) (now (corners .entry)) (now (poses .entry)) (now (offsets .entry))) place axis r ⌝ }
+    requires { ⌜ Piece (storeOf (now shapes) (now places)) place × (axis < 3) ⌝ }
+    ensures { λ r. ⌜ EndsAt (storeOf (now (shapes .entry)) (now (places .entry))) place axis r ⌝ }
 {
-    let pose = pose_of(counts, poses, place);
-    ends_of(corners, offsets, pose, place, axis)
+    let pose = pose_of(shapes, places, place);
+    ends_of(shapes, places, pose, place, axis)
 }
 
 // Whether two pieces' boxes are apart on an axis: one's high is below the other's low.
 fn apart_on(
-    counts: &[u8; limits::SHAPES],
-    corners: &[i32; limits::CORNER_NUMBERS],
-    poses: &[u8; limits::POSE_NUMBERS],
-    offsets: &[i32; limits::OFFSET_NUMBERS],
+    shapes: &[i32; limits::SHAPES_LENGTH],
+    places: &[i32; limits::PLACES_LENGTH],
     p: usize,
     q: usize,
     axis: usize,
 ) -> bool
-    requires { ⌜ Piece (storeOf (now counts) (now corners) (now poses) (now offsets)) p × Piece (storeOf (now counts) (now corners) (now poses) (now offsets)) q × (axis < 3) ⌝ }
-    ensures { λ r. ⌜ Decides r (ApartOn (storeOf (now (counts .entry)) (now (corners .entry)) (now (poses .entry)) (now (offsets .entry))) p q axis) ⌝ }
+    requires { ⌜ Piece (storeOf (now shapes) (now places)) p × Piece (storeOf (now shapes) (now places)) q × (axis < 3) ⌝ }
+    ensures { λ r. ⌜ Decides r (ApartOn (storeOf (now (shapes .entry)) (now (places .entry))) p q axis) ⌝ }
 {
-    let a = piece_ends(counts, corners, poses, offsets, p, axis);
-    let b = piece_ends(counts, corners, poses, offsets, q, axis);
+    let a = piece_ends(shapes, places, p, axis);
+    let b = piece_ends(shapes, places, q, axis);
     let a_low = a.low;
     let a_high = a.high;
     let b_low = b.low;
@@ -213,19 +205,17 @@ fn apart_on(
 
 // Whether the boxes of two pieces are apart: left at the first axis that parts them.
 pub fn boxes_apart(
-    counts: &[u8; limits::SHAPES],
-    corners: &[i32; limits::CORNER_NUMBERS],
-    poses: &[u8; limits::POSE_NUMBERS],
-    offsets: &[i32; limits::OFFSET_NUMBERS],
+    shapes: &[i32; limits::SHAPES_LENGTH],
+    places: &[i32; limits::PLACES_LENGTH],
     p: usize,
     q: usize,
 ) -> bool
-    requires { ⌜ Piece (storeOf (now counts) (now corners) (now poses) (now offsets)) p × Piece (storeOf (now counts) (now corners) (now poses) (now offsets)) q ⌝ }
-    ensures { λ r. ⌜ Decides r (Apart (storeOf (now (counts .entry)) (now (corners .entry)) (now (poses .entry)) (now (offsets .entry))) p q) ⌝ }
+    requires { ⌜ Piece (storeOf (now shapes) (now places)) p × Piece (storeOf (now shapes) (now places)) q ⌝ }
+    ensures { λ r. ⌜ Decides r (Apart (storeOf (now (shapes .entry)) (now (places .entry))) p q) ⌝ }
 {
     let mut axis = 0;
     while axis < 3 {
-        if apart_on(counts, corners, poses, offsets, p, q, axis) {
+        if apart_on(shapes, places, p, q, axis) {
             return true;
         }
         axis += 1;

@@ -9,7 +9,8 @@ use lib.ListN.{length, getD, set, length-set}
 use lib.Seq.{getD-set-same, getD-set-other, ext-getD}
 use Rattle.limits.specs.Limits
 use Rattle.rows.specs.Rows.{cell, rowAt, Cleared, Put}
-use Rattle.rows.specs.Cells.{by-same, cell-once, cell-of}
+use Rattle.rows.specs.Cells.{cell-once, cell-of}
+use Rattle.ints.specs.Cases.{by-same}
 
 -- the row of the pair that is stored, and any other
 pub row-same : (rows : List ℕ) (low high v : ℕ) → length rows ≡ Limits.rows → low < Limits.places → high < Limits.places

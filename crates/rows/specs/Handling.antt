@@ -3,39 +3,33 @@
 use Prim.Native.Nat.{ℕ, _+_, _*_, _<_}
 use mathlib.Core.Path.{_≡_, refl, sym, _∙_, subst}
 use mathlib.Core.List.{List}
-use mathlib.Core.Bool.{Bool, true, false, not}
 use mathlib.Core.Logic.{_⊎_, inl, inr, ⊎-elim}
 use native.Mathlib.Omega.{arith}
-use lib.Dec.{eqb}
+use lib.IntN.{ℤ}
 use lib.ListN.{length, getD, replicate, length-replicate, getD-replicate}
 use Rattle.limits.specs.Limits
-use Rattle.limits.specs.Decides.{Decides}
-use Rattle.rows.specs.Rows.{Taken, PairOf, rowAt, Verdict, RowsInOrder, Cleared, Put, OthersStay, Names, Joins, Handled}
-use Rattle.rows.specs.Cells.{by-same, by-less, cell-below, taken-decided}
+use Rattle.pieces.specs.Pieces.{Taken, OthersStay}
+use Rattle.pieces.specs.Taking.{by-taken}
+use Rattle.rows.specs.Rows.{PairOf, rowAt, Verdict, RowsInOrder, Cleared, Put, Names, Joins, Handled}
+use Rattle.rows.specs.Cells.{cell-below}
+use Rattle.ints.specs.Cases.{by-same, by-less}
 use Rattle.rows.specs.Changes.{rows-once}
 
--- a place is taken or not, and two are a pair or not
-pub by-taken : {C : Type 0} (poses : List ℕ) (p : ℕ) → p < Limits.places → (Taken poses p → C) → ((Taken poses p → ⊥) → C) → C
-by-taken {C} poses p h f g = go (eqb (getD poses (2 * p) 0) 0) (taken-decided poses p h)
-  where
-    go : (b : Bool) → Decides (not b) (Taken poses p) → C
-    go true d = g (d .no refl)
-    go false d = f (d .yes refl)
-
-pub by-pair : {C : Type 0} (poses : List ℕ) (low high : ℕ) → low < Limits.places → high < Limits.places → (PairOf poses low high → C) → ((PairOf poses low high → ⊥) → C) → C
-by-pair poses low high h k f g =
+-- two places are a pair or not
+pub by-pair : {C : Type 0} (places : List ℤ) (low high : ℕ) → low < Limits.places → high < Limits.places → (PairOf places low high → C) → ((PairOf places low high → ⊥) → C) → C
+by-pair places low high h k f g =
     by-less low high
     (λ lt.
-    by-taken poses low h
+    by-taken places low h
     (λ a.
-    by-taken poses high k
+    by-taken places high k
     (λ b. f (record { rising = lt; first = a; second = b }))
     (λ b. g (λ p. b (p .second))))
     (λ a. g (λ p. a (p .first))))
     (λ le. g (λ p. let r = p .rising in omega arith))
 
--- ---- the poses change at p only
-module _ {p : ℕ} {before after : List ℕ} (s : OthersStay p before after) where
+-- ---- the places change at p only
+module _ {p : ℕ} {before after : List ℤ} (s : OthersStay p before after) where
   stays : {q : ℕ} → (q ≡ p → ⊥) → Taken before q → Taken after q
   stays {q} ne t = record { place = t .place; holds = λ e. t .holds (sym (s .same q (t .place) ne) ∙ e) }
 
@@ -56,7 +50,7 @@ module _ {p : ℕ} {before after : List ℕ} (s : OthersStay p before after) whe
       place-remains {q} k = by-same q p (λ e. subst (Taken after) (sym e) t) (λ ne. stays ne k)
 
 -- a removal: the place is empty, its rows are gone
-pub rows-after-clearing : {p : ℕ} {before after rows cleared : List ℕ} → OthersStay p before after → (Taken after p → ⊥)
+pub rows-after-clearing : {p : ℕ} {before after : List ℤ} {rows cleared : List ℕ} → OthersStay p before after → (Taken after p → ⊥)
     → Cleared p rows cleared → RowsInOrder before rows → RowsInOrder after cleared
 rows-after-clearing {p} {before} {after} {rows} {cleared} s empty c o = record {
   size = c .size ∙ o .size;
@@ -107,27 +101,27 @@ named : {p low high : ℕ} → low < Limits.places → high < Limits.places → 
 named h k (inl e) = inl (e, k)
 named h k (inr e) = inr (e, h)
 
-module _ {Right : ℕ → ℕ → ℕ → Type 0} {poses : List ℕ} {p : ℕ} where
-  pub handled-none : (rows : List ℕ) → Handled Right poses p 0 rows rows
+module _ {Right : ℕ → ℕ → ℕ → Type 0} {places : List ℤ} {p : ℕ} where
+  pub handled-none : (rows : List ℕ) → Handled Right places p 0 rows rows
   handled-none rows = record { size = refl; right = λ low high o c. absurd (names-none c); kept = λ low high h k f. refl }
 
   -- a place that makes no pair with p is passed
-  pub handled-skip : {n : ℕ} {before rows : List ℕ} → (Taken poses n → ⊥) ⊎ (n ≡ p) → Handled Right poses p n before rows → Handled Right poses p (n + 1) before rows
+  pub handled-skip : {n : ℕ} {before rows : List ℕ} → (Taken places n → ⊥) ⊎ (n ≡ p) → Handled Right places p n before rows → Handled Right places p (n + 1) before rows
   handled-skip {n} none d = record {
     size = d .size;
     right = λ low high o c. ⊎-elim (λ g. d .right low high o g) (λ j. absurd (no-pair none o j)) (names-last c);
     kept = λ low high h k f. d .kept low high h k (λ o c. f o (names-more c));
   }
     where
-      no-pair : (Taken poses n → ⊥) ⊎ (n ≡ p) → {low high : ℕ} → PairOf poses low high → Joins p n low high → ⊥
-      no-pair (inl f) o (inl (c, e)) = f (subst (Taken poses) e (o .second))
-      no-pair (inl f) o (inr (c, e)) = f (subst (Taken poses) c (o .first))
+      no-pair : (Taken places n → ⊥) ⊎ (n ≡ p) → {low high : ℕ} → PairOf places low high → Joins p n low high → ⊥
+      no-pair (inl f) o (inl (c, e)) = f (subst (Taken places) e (o .second))
+      no-pair (inl f) o (inr (c, e)) = f (subst (Taken places) c (o .first))
       no-pair (inr s) o (inl (c, e)) = let r = o .rising in omega arith
       no-pair (inr s) o (inr (c, e)) = let r = o .rising in omega arith
 
   -- the row of p and n is put
-  pub handled-put : {n low high v : ℕ} {before rows after : List ℕ} → PairOf poses low high → Joins p n low high → Right low high v → Put low high v rows after
-      → Handled Right poses p n before rows → Handled Right poses p (n + 1) before after
+  pub handled-put : {n low high v : ℕ} {before rows after : List ℕ} → PairOf places low high → Joins p n low high → Right low high v → Put low high v rows after
+      → Handled Right places p n before rows → Handled Right places p (n + 1) before after
   handled-put {n} {low} {high} {v} {before} {rows} {after} o j good put d = record {
     size = put .size ∙ d .size;
     right = λ a b q c.
@@ -135,7 +129,7 @@ module _ {Right : ℕ → ℕ → ℕ → Type 0} {poses : List ℕ} {p : ℕ} w
         (λ e. by-same b high (λ f. here e f) (λ f. other a b q c (λ s. f (s .1))))
         (λ e. other a b q c (λ s. e (s .0)));
     kept = λ a b h k f.
-        put .kept a b h k (λ s. f (subst (λ (i : ℕ). PairOf poses i b) (sym (s .0)) (subst (λ (i : ℕ). PairOf poses low i) (sym (s .1)) o)) (joins-named (at s)))
+        put .kept a b h k (λ s. f (subst (λ (i : ℕ). PairOf places i b) (sym (s .0)) (subst (λ (i : ℕ). PairOf places low i) (sym (s .1)) o)) (joins-named (at s)))
         ∙ d .kept a b h k (λ q c. f q (names-more c));
   }
     where
@@ -145,28 +139,28 @@ module _ {Right : ℕ → ℕ → ℕ → Type 0} {poses : List ℕ} {p : ℕ} w
       here : {a b : ℕ} → a ≡ low → b ≡ high → Right a b (rowAt after a b)
       here e f = rw (e, f, put .here) good
 
-      other : (a b : ℕ) → PairOf poses a b → Names p (n + 1) a b → ((a ≡ low) × (b ≡ high) → ⊥) → Right a b (rowAt after a b)
+      other : (a b : ℕ) → PairOf places a b → Names p (n + 1) a b → ((a ≡ low) × (b ≡ high) → ⊥) → Right a b (rowAt after a b)
       other a b q c ne =
           subst (Right a b) (sym (put .kept a b (q .first .place) (q .second .place) ne))
           (⊎-elim (λ g. d .right a b q g) (λ k. absurd (ne (joins-once (o .rising) (q .rising) j k))) (names-last c))
 
   -- when all places are passed: the rows that name p are right, and the others are as they were
-  pub handled-right : {before after : List ℕ} → Handled Right poses p Limits.places before after → (low high : ℕ) → PairOf poses low high → (low ≡ p) ⊎ (high ≡ p)
+  pub handled-right : {before after : List ℕ} → Handled Right places p Limits.places before after → (low high : ℕ) → PairOf places low high → (low ≡ p) ⊎ (high ≡ p)
       → Right low high (rowAt after low high)
   handled-right d low high o w = d .right low high o (named (o .first .place) (o .second .place) w)
 
-  pub handled-other : {before after : List ℕ} → Handled Right poses p Limits.places before after → (low high : ℕ) → low < Limits.places → high < Limits.places
+  pub handled-other : {before after : List ℕ} → Handled Right places p Limits.places before after → (low high : ℕ) → low < Limits.places → high < Limits.places
       → (low ≡ p → ⊥) → (high ≡ p → ⊥) → rowAt after low high ≡ rowAt before low high
   handled-other d low high h k a b = d .kept low high h k (λ o c. ⊎-elim (λ (e : (low ≡ p) × (high < Limits.places)). a (e .0)) (λ (e : (high ≡ p) × (low < Limits.places)). b (e .0)) c)
 
   -- a row of p that is no pair's is as it was
-  handled-no-pair : {before after : List ℕ} → Handled Right poses p Limits.places before after → (low high : ℕ) → low < Limits.places → high < Limits.places
-      → (PairOf poses low high → ⊥) → rowAt after low high ≡ rowAt before low high
+  handled-no-pair : {before after : List ℕ} → Handled Right places p Limits.places before after → (low high : ℕ) → low < Limits.places → high < Limits.places
+      → (PairOf places low high → ⊥) → rowAt after low high ≡ rowAt before low high
   handled-no-pair d low high h k f = d .kept low high h k (λ o c. f o)
 
   -- a place or a move: where every right row is a verdict, the rows are in order again
-  pub rows-after-handling : {old before after : List ℕ} → ((low high v : ℕ) → Right low high v → Verdict v) → OthersStay p old poses → Taken poses p
-      → Handled Right poses p Limits.places before after → RowsInOrder old before → RowsInOrder poses after
+  pub rows-after-handling : {old : List ℤ} {before after : List ℕ} → ((low high v : ℕ) → Right low high v → Verdict v) → OthersStay p old places → Taken places p
+      → Handled Right places p Limits.places before after → RowsInOrder old before → RowsInOrder places after
   rows-after-handling {old} {before} {after} verdict s t d o = record {
     size = d .size ∙ o .size;
     pairs = λ low high q.
@@ -178,11 +172,11 @@ module _ {Right : ℕ → ℕ → ℕ → Type 0} {poses : List ℕ} {p : ℕ} w
 
   -- where one verdict is right for a pair, the rows are determined
   pub handled-once : {before a b : List ℕ} → ((low high v w : ℕ) → Right low high v → Right low high w → v ≡ w) → length before ≡ Limits.rows
-      → Handled Right poses p Limits.places before a → Handled Right poses p Limits.places before b → a ≡ b
+      → Handled Right places p Limits.places before a → Handled Right places p Limits.places before b → a ≡ b
   handled-once {before} {a} {b} once n d e =
       rows-once (d .size ∙ n) (e .size ∙ n)
       (λ low high h k.
-      by-pair poses low high h k
+      by-pair places low high h k
       (λ o.
       by-name p low high
       (λ w. once low high (rowAt a low high) (rowAt b low high) (handled-right d low high o w) (handled-right e low high o w))
@@ -190,7 +184,7 @@ module _ {Right : ℕ → ℕ → ℕ → Type 0} {poses : List ℕ} {p : ℕ} w
       (λ f. handled-no-pair d low high h k f ∙ sym (handled-no-pair e low high h k f)))
 
 -- ---- started afresh: no place is taken, no row holds a verdict, every tally is 0
-pub rows-started : {poses : List ℕ} → ((p : ℕ) → Taken poses p → ⊥) → RowsInOrder poses (replicate Limits.rows Limits.noRow)
+pub rows-started : {places : List ℤ} → ((p : ℕ) → Taken places p → ⊥) → RowsInOrder places (replicate Limits.rows Limits.noRow)
 rows-started none = record {
   size = length-replicate {A = ℕ} Limits.rows Limits.noRow;
   pairs = λ low high o. absurd (none low (o .first));

@@ -1,22 +1,19 @@
 -- The rows of a desk and how a command changes them, in the words of document 01, "Rows" and "What the desk can be told".
--- The row of the places low < high stands at low × places + high; place p's shape, plus one, stands at 2p of the poses, or 0 where p is empty.
+-- The row of the places low < high stands at low × places + high.
 use Prim.Native.Nat.{ℕ, _+_, _*_, _<_}
 use mathlib.Core.Path.{_≡_}
 use mathlib.Core.List.{List}
 use mathlib.Core.Logic.{_⊎_}
 use lib.ListN.{length, getD}
+use lib.IntN.{ℤ}
 use Rattle.limits.specs.Limits
-
--- "Places are numbered 0 to 63. A taken place holds a shape number": p is such a place, and holds one
-pub record Taken (poses : List ℕ) (p : ℕ) : Type 0 where
-  pub place : p < Limits.places
-  pub holds : getD poses (2 * p) 0 ≡ 0 → ⊥
+use Rattle.pieces.specs.Pieces.{Taken}
 
 -- "Each pair of taken places", the lower place first
-pub record PairOf (poses : List ℕ) (low high : ℕ) : Type 0 where
+pub record PairOf (places : List ℤ) (low high : ℕ) : Type 0 where
   pub rising : low < high
-  pub first : Taken poses low
-  pub second : Taken poses high
+  pub first : Taken places low
+  pub second : Taken places high
 
 -- where the row of two places stands, and the row
 abbrev pub cell : ℕ → ℕ → ℕ
@@ -30,10 +27,10 @@ abbrev pub Verdict : ℕ → Type 0
 Verdict v = v < Limits.tallies
 
 -- "each pair of taken places has a verdict 0 to 3 and no other pair has one"
-pub record RowsInOrder (poses rows : List ℕ) : Type 0 where
+pub record RowsInOrder (places : List ℤ) (rows : List ℕ) : Type 0 where
   pub size : length rows ≡ Limits.rows
-  pub pairs : (low high : ℕ) → PairOf poses low high → Verdict (rowAt rows low high)
-  pub others : (low high : ℕ) → low < Limits.places → high < Limits.places → (PairOf poses low high → ⊥) → rowAt rows low high ≡ Limits.noRow
+  pub pairs : (low high : ℕ) → PairOf places low high → Verdict (rowAt rows low high)
+  pub others : (low high : ℕ) → low < Limits.places → high < Limits.places → (PairOf places low high → ⊥) → rowAt rows low high ≡ Limits.noRow
 
 -- ---- changes
 
@@ -58,11 +55,7 @@ Names p n low high = ((low ≡ p) × (high < n)) ⊎ ((high ≡ p) × (low < n))
 
 -- "After an accepted place or move every row that names the handled piece is the right one [..]; every other row stays": so it is for the
 -- piece at p and the taken places below n, and for all of them where n is all places. Which verdict is right is the caller's to say
-pub record Handled (Right : ℕ → ℕ → ℕ → Type 0) (poses : List ℕ) (p n : ℕ) (before after : List ℕ) : Type 0 where
+pub record Handled (Right : ℕ → ℕ → ℕ → Type 0) (places : List ℤ) (p n : ℕ) (before after : List ℕ) : Type 0 where
   pub size : length after ≡ length before
-  pub right : (low high : ℕ) → PairOf poses low high → Names p n low high → Right low high (rowAt after low high)
-  pub kept : (low high : ℕ) → low < Limits.places → high < Limits.places → (PairOf poses low high → Names p n low high → ⊥) → rowAt after low high ≡ rowAt before low high
-
--- "every other shape and place stays": but for p, the places of the poses hold the shapes that they held
-pub record OthersStay (p : ℕ) (before after : List ℕ) : Type 0 where
-  pub same : (q : ℕ) → q < Limits.places → (q ≡ p → ⊥) → getD after (2 * q) 0 ≡ getD before (2 * q) 0
+  pub right : (low high : ℕ) → PairOf places low high → Names p n low high → Right low high (rowAt after low high)
+  pub kept : (low high : ℕ) → low < Limits.places → high < Limits.places → (PairOf places low high → Names p n low high → ⊥) → rowAt after low high ≡ rowAt before low high

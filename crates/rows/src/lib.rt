@@ -5,8 +5,9 @@ ghost use Prim.Native.Nat.{_<_, _/_, _%_};
 ghost use lib.ListN.{length, replicate};
 ghost use Rattle.limits.specs.Limits;
 ghost use Rattle.limits.specs.Decides.{Decides};
-ghost use Rattle.rows.specs.Rows.{Taken, PairOf, RowsInOrder, Cleared, Put};
+ghost use Rattle.rows.specs.Rows.{PairOf, RowsInOrder, Cleared, Put};
 ghost use Rattle.rows.specs.Cells.{CellInOrder};
+use pieces::taking::is_taken;
 
 // No rows at all, and every tally 0.
 pub fn start_rows(rows: &mut [u8; limits::ROWS], book: &mut [u32; limits::BOOK])
@@ -18,13 +19,13 @@ pub fn start_rows(rows: &mut [u8; limits::ROWS], book: &mut [u32; limits::BOOK])
 }
 
 // Whether each pair of taken places has a verdict and no other pair has one. Left at the first wrong cell.
-pub fn rows_in_order(poses: &[u8; limits::POSE_NUMBERS], rows: &[u8; limits::ROWS]) -> bool
-    ensures { λ r. ⌜ Decides r (RowsInOrder (now (poses .entry)) (now (rows .entry))) ⌝ }
+pub fn rows_in_order(places: &[i32; limits::PLACES_LENGTH], rows: &[u8; limits::ROWS]) -> bool
+    ensures { λ r. ⌜ Decides r (RowsInOrder (now (places .entry)) (now (rows .entry))) ⌝ }
 {
     sized_rows(rows);
     let mut k: usize = 0;
     while k < limits::ROWS {
-        if !cell_in_order(poses, k, rows[k]) {
+        if !cell_in_order(places, k, rows[k]) {
             return false;
         }
         k += 1;
@@ -33,36 +34,28 @@ pub fn rows_in_order(poses: &[u8; limits::POSE_NUMBERS], rows: &[u8; limits::ROW
 }
 
 // Whether the cell k may hold v.
-fn cell_in_order(poses: &[u8; limits::POSE_NUMBERS], k: usize, v: u8) -> bool
+fn cell_in_order(places: &[i32; limits::PLACES_LENGTH], k: usize, v: u8) -> bool
     requires { ⌜ k < Limits.rows ⌝ }
-    ensures { λ r. ⌜ Decides r (CellInOrder (now (poses .entry)) (k / Limits.places) (k % Limits.places) v) ⌝ }
+    ensures { λ r. ⌜ Decides r (CellInOrder (now (places .entry)) (k / Limits.places) (k % Limits.places) v) ⌝ }
 {
-    if is_pair(poses, k / limits::PLACES, k % limits::PLACES) {
+    if is_pair(places, k / limits::PLACES, k % limits::PLACES) {
         return wide(v) < limits::TALLIES;
     }
     v == limits::NO_ROW
 }
 
 // Whether two places are a pair of taken ones, the lower first.
-fn is_pair(poses: &[u8; limits::POSE_NUMBERS], low: usize, high: usize) -> bool
+fn is_pair(places: &[i32; limits::PLACES_LENGTH], low: usize, high: usize) -> bool
     requires { ⌜ (low < Limits.places) × (high < Limits.places) ⌝ }
-    ensures { λ r. ⌜ Decides r (PairOf (now (poses .entry)) low high) ⌝ }
+    ensures { λ r. ⌜ Decides r (PairOf (now (places .entry)) low high) ⌝ }
 {
     if high <= low {
         return false;
     }
-    if !is_taken(poses, low) {
+    if !is_taken(places, low) {
         return false;
     }
-    is_taken(poses, high)
-}
-
-// Whether a place holds a shape.
-pub fn is_taken(poses: &[u8; limits::POSE_NUMBERS], place: usize) -> bool
-    requires { ⌜ place < Limits.places ⌝ }
-    ensures { λ r. ⌜ Decides r (Taken (now (poses .entry)) place) ⌝ }
-{
-    poses[2 * place] != 0
+    is_taken(places, high)
 }
 
 // Every row that names a place taken away.

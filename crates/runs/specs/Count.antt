@@ -1,17 +1,15 @@
 -- THE COUNT OF A MOVE worked out from two plans: from their placed corners alone, by the words of document 01, with no desk and no stored marks.
 -- The order of marks and the pairs whose order differs are those of `marks` Marks.antt, over the ends of the plans' pieces.
-use mathlib.Core.Bool.{Bool, true, false}
+use mathlib.Core.List.{List}
 use Prim.Native.Nat.{ℕ}
-use lib.IntN.{natAbs}
+use lib.IntN.{ℤ, natAbs}
 use Rattle.marks.specs.Marks.{Axes, changedMarks}
-use Rattle.runs.specs.Log.{Command, start, load, place, move, remove, Spot, free, held, Plan, planAfter}
+use Rattle.desk.specs.declared.Command.{Command}
+use Rattle.desk.specs.declared.Command.the-variants.{Start, Load, Place, Move, Remove}
+use Rattle.runs.specs.Log.{Entry, isHeld, Plan, planBy}
 use Rattle.runs.specs.Afresh.{pieceOf, lowOf, highOf}
 
 -- "On each axis a taken place has a low mark and a high mark, the least and greatest placed corner."
-abbrev pub isHeld : Spot → Bool
-isHeld free = false
-isHeld (held s t x y z) = true
-
 abbrev pub axesIn : Plan → Axes
 axesIn plan = record { taken = λ p. isHeld (plan .place p); low = λ axis p. lowOf axis (pieceOf plan p); high = λ axis p. highOf axis (pieceOf plan p) }
 
@@ -19,10 +17,14 @@ axesIn plan = record { taken = λ p. isHeld (plan .place p); low = λ axis p. lo
 abbrev pub changedPairs : Plan → Plan → ℕ → ℕ
 changedPairs before after p = changedMarks (axesIn before) (axesIn after) p
 
--- "A move reports a count [..]. Other commands report 0.": what is reported of a command that finds this plan
-abbrev pub reported : Command → Plan → ℕ
-reported start plan = 0
-reported (load s numbers) plan = 0
-reported (place p s t x y z) plan = 0
-reported (move p t x y z) plan = changedPairs plan (planAfter (move p t x y z) plan) (natAbs p)
-reported (remove p) plan = 0
+-- "A move reports a count [..]. Other commands report 0."
+abbrev pub reportedBy : Command → List ℤ → Plan → ℕ
+reportedBy Start numbers plan = 0
+reportedBy (Load shape) numbers plan = 0
+reportedBy (Place place q) numbers plan = 0
+reportedBy (Move place turn o) numbers plan = changedPairs plan (planBy (Move place turn o) numbers plan) (natAbs place)
+reportedBy (Remove place) numbers plan = 0
+
+-- what is reported of an entry that finds this plan
+abbrev pub reported : Entry → Plan → ℕ
+reported e plan = reportedBy (e .command) (e .numbers) plan

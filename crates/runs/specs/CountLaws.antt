@@ -48,7 +48,8 @@ module _ {old new old′ new′ : Axis} (place : ℕ) (hp : place < Limits.place
           none a v f = ap (λ (c : Bool). cond (c && not (eqb (placeOf other) place)) v 0) (ap (λ (c : Bool). ltb other Limits.axisMarks && c) f ∙ and-false (ltb other Limits.axisMarks))
 
 -- over the three axes
-pub count-same : {old new old′ new′ : Axes} (place : ℕ) → place < Limits.places → ((axis : ℕ) → axis < 3 → Agree (axisOf old axis) (axisOf old′ axis)) → ((axis : ℕ) → axis < 3 → Agree (axisOf new axis) (axisOf new′ axis))
+pub count-same : {old new old′ new′ : Axes} (place : ℕ) → place < Limits.places → ((axis : ℕ) → axis < 3 → Agree (axisOf old axis) (axisOf old′ axis))
+    → ((axis : ℕ) → axis < 3 → Agree (axisOf new axis) (axisOf new′ axis))
     → ((p : ℕ) → p < Limits.places → old .taken p ≡ new .taken p) → old .taken place ≡ true → changedMarks old new place ≡ changedMarks old′ new′ place
 count-same {old} {new} {old′} {new′} place h o n stay here = ap₂ _+_ (ap₂ _+_ (on 0 (omega arith)) (on 1 (omega arith))) (on 2 (omega arith))
   where

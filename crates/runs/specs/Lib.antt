@@ -1,10 +1,14 @@
 pub mod Afresh
+pub mod AfreshLaws
 pub mod Count
 pub mod CountLaws
 pub mod Encoded
+pub mod EncodedLaws
 pub mod Log
 pub mod PieceLaws
 pub mod Reached
 pub mod Standing
+pub mod Stands
 pub mod Theorem
 pub mod Told
+pub mod ToldLaws

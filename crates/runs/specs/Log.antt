@@ -1,49 +1,61 @@
--- THE LOG: the commands that a desk can be told, and what the accepted ones put where. There is no desk in it, and no row.
+-- THE LOG: what a desk was told, and what the accepted commands put where. There is no desk in it, and no row.
 -- "An accepted command stores exactly the shape or placement it names, or empties the place it names; every other shape and place stays."
 use mathlib.Core.List.{List, [], _∷_}
-use mathlib.Core.Bool.{cond}
+use mathlib.Core.Bool.{Bool, true, false, cond}
 use Prim.Native.Nat.{ℕ}
 use lib.Dec.{eqb}
 use lib.IntN.{ℤ, natAbs}
+use Rattle.pieces.specs.declared.placement.Placement.{Placement}
+use Rattle.pieces.specs.declared.placement.Offset.{Offset}
+use Rattle.desk.specs.declared.Command.{Command}
+use Rattle.desk.specs.declared.Command.the-variants.{Start, Load, Place, Move, Remove}
 
--- the numbers of a command are those that arrive, whatever they are
-pub data Command : Type 0 where
-  start : Command
-  load : (shape : ℤ) (numbers : List ℤ) → Command
-  place : (at shape turn x y z : ℤ) → Command
-  move : (at turn x y z : ℤ) → Command
-  remove : (at : ℤ) → Command
+-- a command as it arrived, with the corner numbers that came beside it: of the numbers a load alone takes notice
+pub record Entry : Type 0 where
+  pub command : Command
+  pub numbers : List ℤ
 
--- what a place is to hold: nothing, or a shape in a turn at an offset
+infix 70 _with_
+abbrev pub _with_ : Command → List ℤ → Entry
+c with numbers = record { command = c; numbers = numbers }
+
+-- what a place is to hold: nothing, or a placement
 pub data Spot : Type 0 where
   free : Spot
-  held : (shape turn : ℕ) (x y z : ℤ) → Spot
+  held : Placement → Spot
+
+abbrev pub isHeld : Spot → Bool
+isHeld free = false
+isHeld (held q) = true
 
 -- the corner numbers of each shape, none where it is not loaded; and each place
 pub record Plan : Type 0 where
   pub shape : ℕ → List ℤ
   pub place : ℕ → Spot
 
+abbrev pub emptyPlan : Plan
+emptyPlan = record { shape = λ _. []; place = λ _. free }
+
 -- one entry is another now, and every other stays
 abbrev pub with-at : {A : Type 0} → (ℕ → A) → ℕ → A → ℕ → A
 with-at f n v k = cond (eqb k n) v (f k)
 
 -- a move keeps the shape
-abbrev pub turned : Spot → ℕ → ℤ → ℤ → ℤ → Spot
-turned free t x y z = free
-turned (held s u a b c) t x y z = held s t x y z
+abbrev pub turned : Spot → ℤ → Offset → Spot
+turned free turn o = free
+turned (held q) turn o = held (record { shape = q .shape; turn = turn; x = o .x; y = o .y; z = o .z })
 
-abbrev pub nothing : Plan
-nothing = record { shape = λ _. []; place = λ _. free }
+abbrev pub planBy : Command → List ℤ → Plan → Plan
+planBy Start numbers plan = emptyPlan
+planBy (Load shape) numbers plan = record { shape = with-at (plan .shape) (natAbs shape) numbers; place = plan .place }
+planBy (Place place q) numbers plan = record { shape = plan .shape; place = with-at (plan .place) (natAbs place) (held q) }
+planBy (Move place turn o) numbers plan = record { shape = plan .shape; place = with-at (plan .place) (natAbs place) (turned (plan .place (natAbs place)) turn o) }
+planBy (Remove place) numbers plan = record { shape = plan .shape; place = with-at (plan .place) (natAbs place) free }
 
-abbrev pub planAfter : Command → Plan → Plan
-planAfter start plan = nothing
-planAfter (load s numbers) plan = record { shape = with-at (plan .shape) (natAbs s) numbers; place = plan .place }
-planAfter (place p s t x y z) plan = record { shape = plan .shape; place = with-at (plan .place) (natAbs p) (held (natAbs s) (natAbs t) x y z) }
-planAfter (move p t x y z) plan = record { shape = plan .shape; place = with-at (plan .place) (natAbs p) (turned (plan .place (natAbs p)) (natAbs t) x y z) }
-planAfter (remove p) plan = record { shape = plan .shape; place = with-at (plan .place) (natAbs p) free }
+abbrev pub planAfter : Entry → Plan → Plan
+planAfter e plan = planBy (e .command) (e .numbers) plan
 
--- a log has the newest command first
-abbrev pub planOf : List Command → Plan
-planOf [] = nothing
-planOf (c ∷ log) = planAfter c (planOf log)
+-- a log has the newest entry first
+abbrev pub planOf : List Entry → Plan
+planOf [] = emptyPlan
+planOf (e ∷ log) = planAfter e (planOf log)

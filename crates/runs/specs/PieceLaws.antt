@@ -5,42 +5,48 @@ use mathlib.Core.List.{List, [], _∷_}
 use mathlib.Core.Logic.{inl, inr}
 use Prim.Native.Nat.{ℕ, zero, suc, _+_, _*_, _/_, _%_, _<_}
 use native.Mathlib.Omega.{arith}
-use lib.IntN.{ℤ, pos}
+use lib.IntN.{ℤ, pos, natAbs}
 use lib.ListN.{length, getD}
 use Rattle.turns.specs.Turns.{placedAt}
+use Rattle.pieces.specs.declared.placement.Placement.{Placement}
 use Rattle.pieces.specs.Pieces.{Store, cornersOf, shapeNumber, shapeAt, offsetAt, countAt, placedCorner, listTo, pieceAt, leastTo, greatestTo, lowAt, highAt}
 use Rattle.pieces.specs.Placed.{placed-eq}
 use Rattle.pieces.specs.Store.{list-length, list-at, list-same, least-same, greatest-same}
-use Rattle.pairs.specs.Right.{RowRight}
-use Rattle.pairs.specs.RowLaws.{apart-on}
+use Rattle.rows_right.specs.Right.{RowRight}
+use Rattle.rows_right.specs.RowLaws.{apart-on}
 use Rattle.runs.specs.Afresh.{placedNumber, placedCorners, lowOf, highOf, RowOf}
 use Rattle.runs.specs.Reached.{ShapeIs, PieceIs}
 
-offset-is : {d : Store} {p s t : ℕ} {x y z : ℤ} → PieceIs d p s t x y z → (axis : ℕ) → axis < 3 → offsetAt d p axis ≡ getD (x ∷ y ∷ z ∷ []) axis (pos 0)
+offset-is : {d : Store} {p : ℕ} {q : Placement} → PieceIs d p q → (axis : ℕ) → axis < 3 → offsetAt d p axis ≡ getD (q .x ∷ q .y ∷ q .z ∷ []) axis (pos 0)
 offset-is k zero h = k .on-x
 offset-is k (suc zero) h = k .on-y
 offset-is k (suc (suc zero)) h = k .on-z
 offset-is k (suc (suc (suc n))) h = absurd (omega arith)
 
-module _ {d : Store} {p s t : ℕ} {x y z : ℤ} {numbers : List ℤ} (k : PieceIs d p s t x y z) (l : ShapeIs d s numbers) where
+module _ {d : Store} {p : ℕ} {q : Placement} {numbers : List ℤ} (k : PieceIs d p q) (l : ShapeIs d (natAbs (q .shape)) numbers) where
   numbers-are : 3 * countAt d p ≡ length numbers
   numbers-are = subst (λ n. 3 * cornersOf d n ≡ length numbers) (sym (k .shape)) (l .count)
 
   number-is : (i : ℕ) → i < length numbers → shapeNumber d (shapeAt d p) i ≡ getD numbers i (pos 0)
   number-is i h = subst (λ n. shapeNumber d n i ≡ getD numbers i (pos 0)) (sym (k .shape)) (l .each i h)
 
-  placed-is : (i : ℕ) → i < length numbers → placedCorner d p (i / 3) (i % 3) ≡ placedNumber numbers t x y z i
+  placed-is : (i : ℕ) → i < length numbers → placedCorner d p (i / 3) (i % 3) ≡ placedNumber numbers q i
   unfolding placedCorner
   placed-is i h =
       let n = numbers-are in
-      ap (λ u. placedAt u (i % 3) (shapeNumber d (shapeAt d p) (3 * (i / 3))) (shapeNumber d (shapeAt d p) (3 * (i / 3) + 1)) (shapeNumber d (shapeAt d p) (3 * (i / 3) + 2)) (offsetAt d p (i % 3))) (k .turn)
-      ∙ placed-eq t (i % 3) (number-is (3 * (i / 3)) (omega arith)) (number-is (3 * (i / 3) + 1) (omega arith)) (number-is (3 * (i / 3) + 2) (omega arith)) (offset-is k (i % 3) (omega arith))
+      let at : ℕ → ℤ = shapeNumber d (shapeAt d p) in
+      ap (λ u. placedAt u (i % 3) (at (3 * (i / 3))) (at (3 * (i / 3) + 1)) (at (3 * (i / 3) + 2)) (offsetAt d p (i % 3))) (k .turn)
+      ∙ placed-eq (natAbs (q .turn)) (i % 3)
+      (number-is (3 * (i / 3)) (omega arith))
+      (number-is (3 * (i / 3) + 1) (omega arith))
+      (number-is (3 * (i / 3) + 2) (omega arith))
+      (offset-is k (i % 3) (omega arith))
 
-  pub piece-is : pieceAt d p ≡ placedCorners numbers t x y z
+  pub piece-is : pieceAt d p ≡ placedCorners numbers q
   piece-is =
       let n = numbers-are in
-      list-same (3 * countAt d p) (λ i. placedCorner d p (i / 3) (i % 3)) (placedNumber numbers t x y z) (λ i h. placed-is i (omega arith))
-      ∙ ap (λ m. listTo m (placedNumber numbers t x y z)) n
+      list-same (3 * countAt d p) (λ i. placedCorner d p (i / 3) (i % 3)) (placedNumber numbers q) (λ i h. placed-is i (omega arith))
+      ∙ ap (λ m. listTo m (placedNumber numbers q)) n
 
 -- "the least and greatest placed corner" of a piece are those of its list
 module _ (d : Store) (p axis : ℕ) (h : axis < 3) where
@@ -66,4 +72,10 @@ module _ (d : Store) (p axis : ℕ) (h : axis < 3) where
 -- so a row that is right for the desk's pieces is the row of their lists
 pub row-is : (d : Store) (i j : ℕ) {v : ℕ} → RowRight d i j v → RowOf (pieceAt d i) (pieceAt d j) v
 row-is d i j (inl (e, (axis, h, a))) = inl (e, (axis, h, apart-on (high-is d i axis h) (low-is d j axis h) (high-is d j axis h) (low-is d i axis h) a))
-row-is d i j (inr (f, w)) = inr (λ k. f (k .0, k .1, apart-on (sym (high-is d i (k .0) (k .1))) (sym (low-is d j (k .0) (k .1))) (sym (high-is d j (k .0) (k .1))) (sym (low-is d i (k .0) (k .1))) (k .2)), w)
+row-is d i j (inr (f, w)) = inr (
+  λ k.
+      let axis = k .0 in
+      let h = k .1 in
+      f (axis, h, apart-on (sym (high-is d i axis h)) (sym (low-is d j axis h)) (sym (high-is d j axis h)) (sym (low-is d i axis h)) (k .2)),
+  w,
+)

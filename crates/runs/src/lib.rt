@@ -1,2 +1,2 @@
-// The theorem over any run of commands: it stands in specs/Theorem.antt, with what a run is in Log.antt, Reached.antt and Encoded.antt.
-// Definitions and laws only; crate `telling` has the function that carries it.
+// The theorem over any run of commands: specs/Stands.antt says it and Theorem.antt proves it; what a run is stands in Log.antt, Reached.antt and Encoded.antt.
+// Definitions and laws only; crate `runs_told` has the function that carries it.

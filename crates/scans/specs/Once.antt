@@ -15,7 +15,8 @@ use lib.Ieee.Fits.{down-pos}
 use lib.Ieee.Nearest.{div-same}
 use Rattle.ints.specs.Order.{≡-cancel}
 use Rattle.limits.specs.Limits
-use Rattle.limits.specs.Lowest.{_when_, lowest-once}
+use Rattle.limits.specs.Lowest.{_when_}
+use Rattle.limits.specs.LowestLaws.{lowest-once}
 use Rattle.scans.specs.Floats.{InSteps, refusals}
 use Rattle.scans.specs.Scanned.{ScannedAs, One, PointAs}
 use Rattle.scans.specs.Shown.{ShownAs, PatternOf}

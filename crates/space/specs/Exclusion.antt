@@ -6,7 +6,7 @@ use mathlib.Core.Logic.{_⊎_, inl, inr, ⊎-elim}
 use Prim.Native.Nat.{ℕ, _+_, _≤_, _<_}
 use native.Mathlib.Omega.{arith}
 use lib.ListN.{length}
-use lib.IntN.{pos, _+ℤ_, _-ℤ_, _*ℤ_}
+use lib.IntN.{ℤ, pos, _+ℤ_, _-ℤ_, _*ℤ_}
 use lib.Signed.{_≤ℤ_, _<ℤ_, <ℤ-irrefl, <ℤ-≤ℤ-trans, ≤ℤ-refl}
 use Rattle.ints.specs.Quote.{sides, by-ring}
 use Rattle.ints.specs.Order.{le-comb, lt-comb, nn-of-le, pos-of-lt, nn-add, nn-mul, pos-add, pos-mul, lt→≤ℤ, pos-suc}
@@ -20,7 +20,8 @@ unfolding weighted
 weighted-dot d A B [] = by-ring (env1 d []) (search sides depth 9) refl
 weighted-dot d A B (p ∷ ps) =
     ap (λ z. p .weight *ℤ dot d (minus (cornerAt A (p .first)) (cornerAt B (p .second))) +ℤ z) (weighted-dot d A B ps)
-    ∙ by-ring (p .weight ∷ weighted (λ v. v .x) A B ps ∷ weighted (λ v. v .y) A B ps ∷ weighted (λ v. v .z) A B ps ∷ env1 d (env1 (cornerAt A (p .first)) (env1 (cornerAt B (p .second)) []))) (search sides depth 40) refl
+    ∙ by-ring (p .weight ∷ weighted (λ v. v .x) A B ps ∷ weighted (λ v. v .y) A B ps ∷ weighted (λ v. v .z) A B ps ∷ env1 d (env1 (cornerAt A (p .first)) (env1 (cornerAt B (p .second)) [])))
+    (search sides depth 40) refl
 
 balance-dot : {A B : Piece} {ps : List Pair} → Balance A B ps → (d : Vec3) → weighted (dot d) A B ps ≡ pos 0
 balance-dot {A} {B} {ps} b d =
@@ -35,6 +36,9 @@ positive f = <ℤ-≤ℤ-trans (pos-suc 0) (f .least)
 gap : (d a b : Vec3) → dot d a <ℤ dot d b → pos 0 <ℤ (pos 0 -ℤ dot d (minus a b))
 gap d a b h = subst (λ z. pos 0 <ℤ z) (by-ring (env1 d (env1 a (env1 b []))) (search sides depth 40) refl) (pos-of-lt h)
 
+outweighed : (w g r : ℤ) → pos 0 -ℤ (w *ℤ g +ℤ r) ≡ w *ℤ (pos 0 -ℤ g) +ℤ (pos 0 -ℤ r)
+outweighed w g r = by-ring (w ∷ g ∷ r ∷ []) (search sides depth 9) refl
+
 not-more : {d : Vec3} {A B : Piece} → Below d A B → (ps : List Pair) → ((p : Pair) → List·Memᴰ p ps → Fair A B p) → weighted (dot d) A B ps ≤ℤ pos 0
 unfolding weighted
 not-more b [] f = ≤ℤ-refl (pos 0)
@@ -44,7 +48,7 @@ not-more {d} {A} {B} b (p ∷ ps) f =
     (nn-add
     (nn-mul (lt→≤ℤ (positive k)) (lt→≤ℤ (gap d (cornerAt A (p .first)) (cornerAt B (p .second)) (b .all (p .first) (p .second) (k .of-first) (k .of-second)))))
     (nn-of-le (not-more b ps (λ q m. f q (List·Memᴰ·tail m)))))
-    (by-ring (p .weight ∷ dot d (minus (cornerAt A (p .first)) (cornerAt B (p .second))) ∷ weighted (dot d) A B ps ∷ []) (search sides depth 40) refl)
+    (outweighed (p .weight) (dot d (minus (cornerAt A (p .first)) (cornerAt B (p .second)))) (weighted (dot d) A B ps))
 
 less : {d : Vec3} {A B : Piece} → Below d A B → (ps : List Pair) → 1 ≤ length ps → ((p : Pair) → List·Memᴰ p ps → Fair A B p) → weighted (dot d) A B ps <ℤ pos 0
 unfolding weighted
@@ -55,7 +59,7 @@ less {d} {A} {B} b (p ∷ ps) n f =
     (pos-add
     (pos-mul (positive k) (gap d (cornerAt A (p .first)) (cornerAt B (p .second)) (b .all (p .first) (p .second) (k .of-first) (k .of-second))))
     (nn-of-le (not-more b ps (λ q m. f q (List·Memᴰ·tail m)))))
-    (by-ring (p .weight ∷ dot d (minus (cornerAt A (p .first)) (cornerAt B (p .second))) ∷ weighted (dot d) A B ps ∷ []) (search sides depth 40) refl)
+    (outweighed (p .weight) (dot d (minus (cornerAt A (p .first)) (cornerAt B (p .second)))) (weighted (dot d) A B ps))
 
 -- ---- the exclusions
 pub not-both : {A B : Piece} → Separate A B → Meeting A B → ⊥

@@ -2,20 +2,19 @@
 -- Each takes what the code's tests say, in their order, to the definitions of Lists.
 use mathlib.Core.Path.{_≡_, refl, sym, ap, _∙_, subst}
 use mathlib.Core.Bool.{Bool, true, false}
-use mathlib.Core.Logic.{⊎-elim}
-use Prim.Native.Nat.{ℕ, _+_, _/_, _%_, _≤_, _<_}
+use Prim.Native.Nat.{ℕ, _/_, _%_}
 use native.Mathlib.Omega.{arith}
 use lib.Dec.{leb}
-use lib.ListN.{getD}
 use lib.IntN.{ℤ, pos, negsuc, negℤ, natAbs, _-ℤ_, +ℤ-idl}
 use lib.Signed.{_≤ℤ_, _<ℤ_, clashℤ, leZ}
 use mir.Syntax.{w32}
 use mir.Val.{SFits}
 use borrow.Author.Tests.{leb-true, leb-false}
 use Rattle.ints.specs.Bounds.{Within, within-upper, within-lower, within-of}
-use Rattle.ints.specs.Order.{lt-or-ge, ≤ℤ-trans, nn-pos, nn-dest, pos-le, le-pos}
+use Rattle.ints.specs.Order.{≤ℤ-trans, nn-pos, nn-dest, pos-le, le-pos}
 use Rattle.ints.specs.Tests.{le-of-true, lt-of-false}
-use Rattle.limits.specs.Decides.{Decides, holds, fails}
+use Rattle.limits.specs.Decides.{Decides}
+use Rattle.limits.specs.DecidesLaws.{holds, fails}
 use Rattle.limits.specs.Limits.{shapeNumbers}
 use Rattle.space.specs.Verdicts.{Piece}
 use Rattle.space.specs.Lists.{LengthFits, InReach, IsNear, AllNear}
@@ -80,6 +79,3 @@ reach-most {reach = negsuc n} h f = absurd (h .le)
 -- ---- a whole list
 pub near-all : {b : Bool} {n : ℕ} {s : Piece} → Decides b (AllNear (pos n) s) → Decides b (InReach n s)
 near-all d = record { yes = λ t. record { all = λ k h. near-is (d .yes t .all k h) }; no = λ f w. d .no f (record { all = λ k h. is-near (w .all k h) }) }
-
-pub near-more : {reach : ℤ} (s : Piece) (i : ℕ) → ((k : ℕ) → k < i → IsNear reach (getD s k (pos 0))) → IsNear reach (getD s i (pos 0)) → (k : ℕ) → k < i + 1 → IsNear reach (getD s k (pos 0))
-near-more {reach} s i h t k lt = ⊎-elim (λ (e : k < i). h k e) (λ (e : i ≤ k). let g : k ≡ i = omega arith in subst (λ j. IsNear reach (getD s j (pos 0))) (sym g) t) (lt-or-ge k i)

@@ -1,5 +1,3 @@
-pub mod Decimal
-pub mod DecimalLaws
 pub mod TypedLength
 pub mod TypedLaws
 pub mod Reading

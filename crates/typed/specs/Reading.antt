@@ -7,8 +7,8 @@ use mathlib.Core.Logic.{inl, inr, ite}
 use native.Mathlib.Decide.{decLe, ℕ-discrete}
 use lib.ListN.{length, drop}
 use Rattle.limits.specs.Limits
-use Rattle.typed.specs.Decimal.{number}
-use Rattle.typed.specs.DecimalLaws.{both, digits?, leading}
+use Rattle.text_digits.specs.Decimal.{number}
+use Rattle.text_digits.specs.DecimalLaws.{both, digits?, leading}
 use Rattle.typed.specs.TypedLength.{CommaOrPoint}
 use Rattle.typed.specs.declared.Typed.{Typed}
 use Rattle.typed.specs.declared.Typed.the-variants.{Steps, Refused}

@@ -10,8 +10,8 @@ use native.Mathlib.Omega.{arith}
 use lib.ListN.{length, getD, drop}
 use lib.Seq.{drop-length, drop-cons}
 use Rattle.limits.specs.Limits
-use Rattle.typed.specs.Decimal.{Digits, number, Follows}
-use Rattle.typed.specs.DecimalLaws.{both, digits?, leading, leading-digits, leading-split, whole-leading, rest-follows}
+use Rattle.text_digits.specs.Decimal.{Digits, number, Follows}
+use Rattle.text_digits.specs.DecimalLaws.{both, digits?, leading, leading-digits, leading-split, whole-leading, rest-follows}
 use Rattle.typed.specs.TypedLength.{CommaOrPoint, TypedAs, Hundredths, NotOfForm, RoundedUp, Answers}
 use Rattle.typed.specs.TypedLaws.{apart, hundredths-once}
 use Rattle.typed.specs.Reading.{separator?, Few, few?, judged, afterSeparator, afterWhole, reading}

@@ -6,9 +6,9 @@ use mathlib.Core.List.{List}
 use mathlib.Core.Logic.{inl, inr}
 use native.Mathlib.Omega.{arith}
 use Rattle.limits.specs.Limits
-use Rattle.limits.specs.Lowest.{lowest-once}
-use Rattle.typed.specs.Decimal.{Digit, valueIn}
-use Rattle.typed.specs.DecimalLaws.{decimal-once}
+use Rattle.limits.specs.LowestLaws.{lowest-once}
+use Rattle.text_digits.specs.Decimal.{Digit, valueIn}
+use Rattle.text_digits.specs.DecimalLaws.{decimal-once}
 use Rattle.typed.specs.TypedLength.{CommaOrPoint, Hundredths, RoundedUp, InSteps, numberOf, refusals, Answers}
 use Rattle.typed.specs.declared.Typed.{Typed}
 use Rattle.typed.specs.declared.Typed.the-variants.{Steps, Refused}

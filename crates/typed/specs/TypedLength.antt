@@ -7,7 +7,7 @@ use mathlib.Core.Logic.{_⊎_}
 use lib.ListN.{length}
 use Rattle.limits.specs.Limits
 use Rattle.limits.specs.Lowest.{Refusal, Lowest, _when_}
-use Rattle.typed.specs.Decimal.{Decimal, valueIn}
+use Rattle.text_digits.specs.Decimal.{Decimal, valueIn}
 use Rattle.typed.specs.declared.Typed.{Typed}
 use Rattle.typed.specs.declared.Typed.the-variants.{Steps, Refused}
 

@@ -6,8 +6,8 @@ ghost use mathlib.Core.Logic.{_↔_};
 ghost use Prim.Native.Nat.{_≤_, _+_, _-_, _*_, _^_, min};
 ghost use lib.ListN.{length, drop};
 ghost use Rattle.limits.specs.Limits;
-ghost use Rattle.typed.specs.Decimal.{Digit, number};
-ghost use Rattle.typed.specs.DecimalLaws.{leading};
+ghost use Rattle.text_digits.specs.Decimal.{Digit, number};
+ghost use Rattle.text_digits.specs.DecimalLaws.{leading};
 ghost use Rattle.typed.specs.TypedLength.{CommaOrPoint, Answers};
 ghost use Rattle.typed.specs.Reading.{cut, judged, afterSeparator, afterWhole};
 

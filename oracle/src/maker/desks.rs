@@ -4,7 +4,7 @@
 use super::dice::Dice;
 use super::script::Script;
 use super::shapes::{any, ball, block, numbers};
-use crate::desk::{Part, PLACES, SHAPES};
+use crate::desk::{turn_cell, Part, PLACES, SHAPES};
 use crate::point::{Number, Point};
 
 /// How a desk is laid out: shapes within reach, offsets at multiples of a unit.
@@ -149,7 +149,7 @@ fn near_pair(script: &mut Script, dice: &mut Dice) {
 /// The same pose but for one step, or for nothing at all.
 fn nudge(script: &mut Script, dice: &mut Dice, place: usize) {
     let desk = script.desk();
-    let turn = desk.cell(Part::Poses, 2 * place + 1);
+    let turn = desk.cell(Part::Places, turn_cell(place));
     let mut offset = desk.offset(place);
     let axis = dice.below(3);
     offset[axis] = (offset[axis] + dice.between(-1, 1)).clamp(-65_536, 65_536);

@@ -5,7 +5,8 @@ use super::desks;
 use super::dice::Dice;
 use super::refusals::{begin, desk_command};
 use super::script::Script;
-use crate::desk::{Desk, Part, AXIS_MARKS, CORNERS, MARKS, NO_ROW, PLACES, SHAPES};
+use crate::desk::{count_cell, held_cell, number_cell, offset_cell, turn_cell, Desk, Part};
+use crate::desk::{AXIS_MARKS, CORNERS, MARKS, NO_ROW, PLACES, SHAPES};
 use crate::point::Number;
 
 /// What brings a spoiled desk back.
@@ -46,7 +47,7 @@ impl Undo {
             }
             2 => Undo::spoil(script, Part::Marks, AXIS_MARKS - 1, 0),
             3 => Undo::spoil(script, Part::Rows, 65 * dice.below(PLACES), 2),
-            _ => Undo::spoil(script, Part::Counts, dice.below(SHAPES), 33),
+            _ => Undo::spoil(script, Part::Shapes, count_cell(dice.below(SHAPES)), 33),
         }
     }
 }
@@ -80,10 +81,10 @@ pub fn stretch(script: &mut Script, dice: &mut Dice) {
 /// Spoils one cell, tries some commands, and mostly puts the cell right again.
 fn one_cell(script: &mut Script, dice: &mut Dice) {
     let undo = match dice.below(24) {
-        0 | 1 => counts(script, dice),
-        2..=4 => corners(script, dice),
-        5..=8 => poses(script, dice),
-        9..=11 => offsets(script, dice),
+        0 | 1 => count(script, dice),
+        2..=4 => corner(script, dice),
+        5..=8 => held_or_turn(script, dice),
+        9..=11 => offset(script, dice),
         12..=15 => rows(script, dice),
         16 | 17 => book(script, dice),
         18..=21 => marks(script, dice),
@@ -125,35 +126,46 @@ fn cleared(script: &mut Script, dice: &mut Dice) {
 }
 
 /// A count; corners that come to mean something by it are written first.
-fn counts(script: &mut Script, dice: &mut Dice) -> Undo {
+fn count(script: &mut Script, dice: &mut Dice) -> Undo {
     let shape = if dice.once_in(2) {
         some_shape(script, dice)
     } else {
         dice.below(SHAPES)
     };
-    let old = script.desk().cell(Part::Counts, shape) as usize;
-    let new = dice.pick(&[0, 1, old.saturating_sub(1), old + 1, 32, 33, 255]);
-    if new <= CORNERS {
-        for cell in 3 * old..3 * new {
+    let old = script.desk().count(shape);
+    let end = dice.pick(&[i32::MIN, i32::MAX]);
+    let new = dice.pick(&[
+        0,
+        1,
+        (old - 1).max(0),
+        old + 1,
+        32,
+        33,
+        255,
+        -old,
+        -1,
+        end.into(),
+    ]);
+    if new <= CORNERS as Number {
+        for k in 3 * old..3 * new {
             let value = dice.between(-1, 2);
-            script.spoil(Part::Corners, shape * CORNERS * 3 + cell, value);
+            script.spoil(Part::Shapes, number_cell(shape, k as usize), value);
         }
     }
-    Undo::spoil(script, Part::Counts, shape, new as Number)
+    Undo::spoil(script, Part::Shapes, count_cell(shape), new)
 }
 
 /// A corner number of a loaded shape, or one past its count.
-fn corners(script: &mut Script, dice: &mut Dice) -> Undo {
+fn corner(script: &mut Script, dice: &mut Dice) -> Undo {
     let shape = some_shape(script, dice);
-    let count = script.desk().cell(Part::Counts, shape) as usize;
+    let count = script.desk().count(shape) as usize;
     let within = match dice.below(3) {
         0 => dice.below(3 * CORNERS),
         _ => dice.below(3 * count),
     };
     let ends = [i32::MAX, i32::MIN].map(Number::from);
     let value = dice.pick(&[65_536, 65_537, -65_537, 0, 1, 2, -1, ends[0], ends[1]]);
-    let cell = shape * CORNERS * 3 + within;
-    Undo::spoil(script, Part::Corners, cell, value)
+    Undo::spoil(script, Part::Shapes, number_cell(shape, within), value)
 }
 
 fn some_place(script: &Script, dice: &mut Dice) -> usize {
@@ -164,22 +176,30 @@ fn some_place(script: &Script, dice: &mut Dice) -> usize {
     }
 }
 
-fn poses(script: &mut Script, dice: &mut Dice) -> Undo {
+/// The turn of a place, or its shape plus one; a minus does not go unseen.
+fn held_or_turn(script: &mut Script, dice: &mut Dice) -> Undo {
     let place = some_place(script, dice);
-    if dice.once_in(2) {
-        let turn = dice.pick(&[24, 24, 25, 255, 0, 1, 23]);
-        return Undo::spoil(script, Part::Poses, 2 * place + 1, turn);
-    }
-    let shape = dice.pick(&[0, 1, 2, 8, 32, 33, 255]);
-    Undo::spoil(script, Part::Poses, 2 * place, shape)
+    let end = Number::from(dice.pick(&[i32::MIN, i32::MAX]));
+    let cell = if dice.once_in(2) {
+        turn_cell(place)
+    } else {
+        held_cell(place)
+    };
+    let old = script.desk().cell(Part::Places, cell);
+    let value = if cell == turn_cell(place) {
+        dice.pick(&[24, 24, 25, 255, 0, 1, 23, -1, -old, end])
+    } else {
+        dice.pick(&[0, 1, 2, 8, 32, 33, 255, -1, -old, end])
+    };
+    Undo::spoil(script, Part::Places, cell, value)
 }
 
-fn offsets(script: &mut Script, dice: &mut Dice) -> Undo {
-    let cell = 3 * some_place(script, dice) + dice.below(3);
+fn offset(script: &mut Script, dice: &mut Dice) -> Undo {
+    let cell = offset_cell(some_place(script, dice), dice.below(3));
     let value = dice.pick(&[0, 1, 2, 65_536, 65_537, -65_537]);
     let end = dice.pick(&[i32::MIN, i32::MAX]);
     let chosen = if dice.once_in(6) { end.into() } else { value };
-    Undo::spoil(script, Part::Offsets, cell, chosen)
+    Undo::spoil(script, Part::Places, cell, chosen)
 }
 
 /// A row of two pieces, of a piece with itself, of the wrong order, or of an empty place.
@@ -283,9 +303,9 @@ fn placed_by_hand(script: &mut Script, dice: &mut Dice) {
     }
     // Turn and offset mean nothing yet; what they held before is not to be leant on.
     let mut cells = changed_cells(&before, &after);
-    cells.push((Part::Poses, 2 * place));
+    cells.push((Part::Places, held_cell(place)));
     dice.shuffle(&mut cells);
-    cells.splice(0..0, pose_cells(place));
+    cells.splice(0..0, turn_and_offset(place));
     for (part, cell) in cells {
         script.spoil(part, cell, after.cell(part, cell));
         if dice.once_in(12) {
@@ -298,9 +318,9 @@ fn placed_by_hand(script: &mut Script, dice: &mut Dice) {
 }
 
 /// Turn and offset, which are written even where they seem to hold the value already.
-fn pose_cells(place: usize) -> Vec<(Part, usize)> {
-    let mut cells = vec![(Part::Poses, 2 * place + 1)];
-    cells.extend((0..3).map(|axis| (Part::Offsets, 3 * place + axis)));
+fn turn_and_offset(place: usize) -> Vec<(Part, usize)> {
+    let mut cells = vec![(Part::Places, turn_cell(place))];
+    cells.extend((0..3).map(|axis| (Part::Places, offset_cell(place, axis))));
     cells
 }
 
@@ -325,7 +345,7 @@ fn no_such_cell(script: &mut Script, dice: &mut Dice) {
         let cell = dice.pick(&[-1, cells, cells + 1, Number::from(i32::MAX)]);
         script.say(&format!("spoil {} {cell} 0", part.word()));
         let value: Number = match part {
-            Part::Corners | Part::Offsets => 1 << 31,
+            Part::Shapes | Part::Places => dice.pick(&[1 << 31, -1 - (1 << 31)]),
             Part::Marks => dice.pick(&[-1, 65_536]),
             Part::Book => dice.pick(&[-1, 1 << 31]),
             _ => dice.pick(&[-1, 256]),

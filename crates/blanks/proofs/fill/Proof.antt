@@ -40,7 +40,14 @@ returns-2 c =
         wide = v .0;
         deep = v .1;
         high = v .2;
-        room = rw (toZ-ofZ w32 (r .x) (record { sfits = c .before .before .before .before .struct-told .given .1 .0 .1 }), toZ-ofZ w32 (r .y) (record { sfits = c .before .before .before .struct-told2 .given .1 .1 .0 .1 }), toZ-ofZ w32 (r .z) (record { sfits = c .before .before .struct-told3 .given .1 .1 .1 .0 .1 })) at (c .before .put .ensures);
+        room =
+            rw (
+              toZ-ofZ w32 (r .x) (record { sfits = c .before .before .before .before .struct-told .given .1 .0 .1 }),
+              toZ-ofZ w32 (r .y)
+                  (record { sfits = c .before .before .before .struct-told2 .given .1 .1 .0 .1 }),
+              toZ-ofZ w32 (r .z)
+                  (record { sfits = c .before .before .struct-told3 .given .1 .1 .1 .0 .1 }),
+            ) at (c .before .put .ensures);
         counted = refl;
       };
       kept = λ f. absurd (f refl);

@@ -12,7 +12,12 @@ use Rattle.blanks.proofs.in_steps.Tie as tie
 tested : (c : tie.After-positive) → let r = c .before .before .before .before .before .scan-point .result in c .positive .result ≡ allPositive (r .x) (r .y) (r .z)
 tested c =
     let r = c .before .before .before .before .before .scan-point .result in
-    rw (toZ-ofZ w32 (r .x) (record { sfits = c .before .before .before .struct-told .given .1 .0 .1 }), toZ-ofZ w32 (r .y) (record { sfits = c .before .before .struct-told2 .given .1 .1 .0 .1 }), toZ-ofZ w32 (r .z) (record { sfits = c .before .struct-told3 .given .1 .1 .1 .0 .1 })) at (c .positive .ensures)
+    rw (
+      toZ-ofZ w32 (r .x) (record { sfits = c .before .before .before .struct-told .given .1 .0 .1 }),
+      toZ-ofZ w32 (r .y)
+          (record { sfits = c .before .before .struct-told2 .given .1 .1 .0 .1 }),
+      toZ-ofZ w32 (r .z) (record { sfits = c .before .struct-told3 .given .1 .1 .1 .0 .1 }),
+    ) at (c .positive .ensures)
 
 scan-point-requires : tie.Need-scan-point-requires
 scan-point-requires c κs = search needs

@@ -14,7 +14,8 @@ use Rattle.blanks.proofs.put.Statement.{statement}
 use Rattle.blanks.proofs.put.Tie as tie
 
 abbrev Inv-loop : tie.InvT-loop
-Inv-loop table room₀ width depth height i₀ room i = (length room ≡ length room₀) × (i ≤ length table) × (room ≡ chosenAll (take i table) (toZ w32 width) (toZ w32 depth) (toZ w32 height) ++ drop i room₀)
+Inv-loop table room₀ width depth height i₀ room i =
+    (length room ≡ length room₀) × (i ≤ length table) × (room ≡ chosenAll (take i table) (toZ w32 width) (toZ w32 depth) (toZ w32 height) ++ drop i room₀)
 
 abbrev μ-loop : tie.MeasureT-loop
 μ-loop table room₀ width depth height i₀ room i = length table - i

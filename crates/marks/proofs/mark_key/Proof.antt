@@ -27,7 +27,8 @@ add-up : tie.Need-add-up
 add-up c = sum-fits (c .args .value) (c .pre .0)
 
 cast-raised : tie.Need-cast-raised
-cast-raised c = (subst (λ (z : ℤ). T (nonNeg z)) (sym (sum (c .args .value) (c .pre .0))) (raised-sign (c .args .value) (c .pre .0)), omega (arith, size (c .args .value) (c .pre .0), raised-most (c .pre .0)))
+cast-raised c =
+    (subst (λ (z : ℤ). T (nonNeg z)) (sym (sum (c .args .value) (c .pre .0))) (raised-sign (c .args .value) (c .pre .0)), omega (arith, size (c .args .value) (c .pre .0), raised-most (c .pre .0)))
 
 mul-key : tie.Need-mul-key
 mul-key c = omega (arith, size (c .args .value) (c .pre .0), raised-most (c .pre .0))

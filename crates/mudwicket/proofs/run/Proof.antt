@@ -13,13 +13,23 @@ more : {s : State} {m n : ℕ} → Held s m → m ≤ n → Held s n
 more h k = record { seen = h .seen; waits = h .waits; within = omega arith; line = h .line; found = omega arith }
 
 abbrev Inv-loop : tie.InvT-loop
-Inv-loop input₀ out₀ texts₀ numbers₀ lent₀ counts₀ corners₀ poses₀ offsets₀ rows₀ book₀ marks₀ s₀ at₀ turns₀ input out texts numbers lent counts corners poses offsets rows book marks s at turns = Held s (length input) × (length input ≡ length input₀) × (length out ≡ length out₀) × (length texts ≡ length texts₀) × (length numbers ≡ length numbers₀) × (length marks ≡ length marks₀)
+Inv-loop input₀ out₀ texts₀ numbers₀ lent₀ shapes₀ places₀ rows₀ book₀ marks₀ s₀ at₀ turns₀ input out texts numbers lent shapes places rows book marks s at turns =
+    Held s (length input)
+    × (length input ≡ length input₀)
+    × (length out ≡ length out₀)
+    × (length texts ≡ length texts₀)
+    × (length numbers ≡ length numbers₀)
+    × (length marks ≡ length marks₀)
 
 abbrev μ-loop : tie.MeasureT-loop
-μ-loop input₀ out₀ texts₀ numbers₀ lent₀ counts₀ corners₀ poses₀ offsets₀ rows₀ book₀ marks₀ s₀ at₀ turns₀ input out texts numbers lent counts corners poses offsets rows book marks s at turns = turns
+μ-loop input₀ out₀ texts₀ numbers₀ lent₀ shapes₀ places₀ rows₀ book₀ marks₀ s₀ at₀ turns₀ input out texts numbers lent shapes places rows book marks s at turns = turns
 
 held-after : (c : tie.After-advance Inv-loop μ-loop) → Held (c .advance .result) (length (c .advance .last .0))
 held-after c = subst (Held (c .advance .result)) (sym (c .advance .kept .0)) (c .advance .ensures)
+
+-- the turn of which the answer was put
+abbrev turn : tie.After-slice-known8 Inv-loop μ-loop → tie.After-advance Inv-loop μ-loop
+turn c = let r = c .before .before .before .before .before .before .before in r .before .before .before .before .before .before .before .before .before .before .before .before .before
 
 start-requires : tie.Need-start-requires Inv-loop μ-loop
 start-requires c κs = tt
@@ -31,25 +41,25 @@ advance-requires : tie.Need-advance-requires Inv-loop μ-loop
 advance-requires c κs = c .before .before .before .before .loop .inv .0
 
 respond-requires : tie.Need-respond-requires Inv-loop μ-loop
-respond-requires c κs = held-after (c .before .before .before .before .before .before .before .before .before .before .before .before .before .before)
+respond-requires c κs = held-after (c .before .before .before .before .before .before .before .before .before .before .before .before)
 
 sub-turns : tie.Need-sub-turns Inv-loop μ-loop
-sub-turns c = c .before .before .before .before .before .before .before .before .before .before .before .before .before .before .before .before .before .before .before .before .before .before .before .before .before .before .loop-test .taken
+sub-turns c = let a = turn c in a .before .before .before .before .loop-test .taken
 
 loop-less : tie.Need-loop-less Inv-loop μ-loop
-loop-less c = omega (arith, c .before .before .before .before .before .before .before .before .before .before .before .before .before .before .before .before .before .before .before .before .before .before .before .before .before .before .loop-test .taken)
+loop-less c = let a = turn c in omega (arith, a .before .before .before .before .loop-test .taken)
 
 loop-again : tie.Need-loop-again Inv-loop μ-loop
 loop-again c =
-    let l = c .before .before .before .before .before .before .before .before .before .before .before .before .before .before .before .before .before .before .before .before .before .before .before .before .before .before .before in
-    let a = c .before .before .before .before .before .before .before .before .before .before .before .before .before .before .before .before .before .before .before .before .before .before in
+    let a = turn c in
+    let l = a .before .before .before .before .before in
     let r = c .before .before .before .before .before .before .before in (
       held-after a,
       a .advance .kept .0 ∙ l .loop .inv .1,
       r .respond .kept .1 .1 .0 ∙ l .loop .inv .2,
       r .respond .kept .1 .1 .1 .1 .0 ∙ l .loop .inv .3,
       r .respond .kept .1 .1 .1 .1 .1 .0 ∙ l .loop .inv .4,
-      r .respond .kept .1 .1 .1 .1 .1 .1 .1 .1 .1 .1 .1 .1 .1 .0 ∙ l .loop .inv .5,
+      r .respond .kept .1 .1 .1 .1 .1 .1 .1 .1 .1 .1 .1 .0 ∙ l .loop .inv .5,
     )
 
 flush-requires : tie.Need-flush-requires Inv-loop μ-loop

@@ -3,7 +3,7 @@
 use mathlib.Core.Path.{refl}
 use native.Mathlib.Omega.{arith}
 use borrow.Author.Needs.{needs}
-use Rattle.limits.specs.Decides.{fails, unless-taken, unless-left}
+use Rattle.limits.specs.DecidesLaws.{fails, unless-taken, unless-left}
 use Rattle.rows.proofs.is_pair.Statement.{statement}
 use Rattle.rows.proofs.is_pair.Tie as tie
 

@@ -6,17 +6,17 @@ use native.Mathlib.Omega.{arith}
 use lib.ListN.{getD}
 use borrow.Author.Count.{below-more}
 use borrow.Author.Needs.{needs}
-use Rattle.limits.specs.Decides.{holds, fails, unless-taken, unless-left}
+use Rattle.limits.specs.DecidesLaws.{holds, fails, unless-taken, unless-left}
 use Rattle.limits.specs.Limits
 use Rattle.rows.specs.Cells.{CellInOrder, every-cell, one-cell}
 use Rattle.rows.proofs.rows_in_order.Statement.{statement}
 use Rattle.rows.proofs.rows_in_order.Tie as tie
 
 abbrev Inv-loop : tie.InvT-loop
-Inv-loop poses rows k₀ k = (k ≤ Limits.rows) × ((i : ℕ) → i < k → CellInOrder poses (i / Limits.places) (i % Limits.places) (getD rows i 0))
+Inv-loop places rows k₀ k = (k ≤ Limits.rows) × ((i : ℕ) → i < k → CellInOrder places (i / Limits.places) (i % Limits.places) (getD rows i 0))
 
 abbrev μ-loop : tie.MeasureT-loop
-μ-loop poses rows k₀ k = Limits.rows - k
+μ-loop places rows k₀ k = Limits.rows - k
 
 sized-rows-requires : tie.Need-sized-rows-requires Inv-loop μ-loop
 sized-rows-requires c κs = search needs

@@ -22,7 +22,8 @@ powered : (n : ℕ) → 121 ≤ exponent n → 0 < 1 * 2 ^ (144 - exponent n) % 
 powered n h = rw (power (exponent n) h) (pow-pos (144 - exponent n))
 
 -- past the four tests the digits are so many of the parts that a step has
-in-parts : (c : tie.Else4) → let n = c .before .before .before .before .args .pattern in Sized (ofFields binary32 (minus n) (exponent n) (digits n)) (minus n) (8388608 + digits n) (1 * 2 ^ (144 - exponent n) % 4294967296)
+in-parts : (c : tie.Else4)
+    → let n = c .before .before .before .before .args .pattern in Sized (ofFields binary32 (minus n) (exponent n) (digits n)) (minus n) (8388608 + digits n) (1 * 2 ^ (144 - exponent n) % 4294967296)
 in-parts c =
     let n = c .before .before .before .before .args .pattern in
     rw (power (exponent n) (c .if4 .left)) (behind (minus n) (exponent n) (digits n) (omega arith) (omega arith))

@@ -37,7 +37,9 @@ module _ (p : Point) (a b c : Scan) (ha : ScannedAs (p .x) a) (hb : ScannedAs (p
   one-refused f = record { number = lowest; steps = λ z. absurd (f z); zero = λ _. (refl, refl, refl) }
 
 -- the number that the two calls of `lower` make
-number-of : (c : tie.After-lower2) → c .lower2 .result ≡ lowerOf (c .before .before .before .before .scan-float .result .number) (lowerOf (c .before .before .before .scan-float2 .result .number) (c .before .before .scan-float3 .result .number))
+number-of : (c : tie.After-lower2)
+    → c .lower2 .result ≡ lowerOf (c .before .before .before .before .scan-float .result .number)
+    (lowerOf (c .before .before .before .scan-float2 .result .number) (c .before .before .scan-float3 .result .number))
 number-of c = c .lower2 .ensures ∙ ap (lowerOf (c .before .before .before .before .scan-float .result .number)) (c .before .lower .ensures)
 
 scan-float-requires : tie.Need-scan-float-requires
@@ -61,8 +63,14 @@ returns c =
     let f3 = l .before .before in
     let f2 = f3 .before in
     let f1 = f2 .before in
-    rw (toZ-ofZ w32 (f1 .scan-float .result .steps) (record { sfits = c .before .before .struct-told .given .1 .0 .1 }), toZ-ofZ w32 (f2 .scan-float2 .result .steps) (record { sfits = c .before .struct-told2 .given .1 .0 .1 }), toZ-ofZ w32 (f3 .scan-float3 .result .steps) (record { sfits = c .struct-told3 .given .1 .0 .1 }))
-    (all-taken (f1 .before .args .point) (f1 .scan-float .result) (f2 .scan-float2 .result) (f3 .scan-float3 .result) (f1 .scan-float .ensures) (f2 .scan-float2 .ensures) (f3 .scan-float3 .ensures) (l .lower2 .result) (number-of l) (c .before .before .before .if1 .taken))
+    rw (
+      toZ-ofZ w32 (f1 .scan-float .result .steps) (record { sfits = c .before .before .struct-told .given .1 .0 .1 }),
+      toZ-ofZ w32 (f2 .scan-float2 .result .steps)
+          (record { sfits = c .before .struct-told2 .given .1 .0 .1 }),
+      toZ-ofZ w32 (f3 .scan-float3 .result .steps) (record { sfits = c .struct-told3 .given .1 .0 .1 }),
+    )
+    (all-taken (f1 .before .args .point) (f1 .scan-float .result) (f2 .scan-float2 .result) (f3 .scan-float3 .result) (f1 .scan-float .ensures) (f2 .scan-float2 .ensures) (f3 .scan-float3 .ensures)
+    (l .lower2 .result) (number-of l) (c .before .before .before .if1 .taken))
 
 returns-2 : tie.Need-returns-2
 returns-2 c =
@@ -70,7 +78,8 @@ returns-2 c =
     let f3 = l .before .before in
     let f2 = f3 .before in
     let f1 = f2 .before in
-    one-refused (f1 .before .args .point) (f1 .scan-float .result) (f2 .scan-float2 .result) (f3 .scan-float3 .result) (f1 .scan-float .ensures) (f2 .scan-float2 .ensures) (f3 .scan-float3 .ensures) (l .lower2 .result) (number-of l) (c .if1 .left)
+    one-refused (f1 .before .args .point) (f1 .scan-float .result) (f2 .scan-float2 .result) (f3 .scan-float3 .result) (f1 .scan-float .ensures) (f2 .scan-float2 .ensures) (f3 .scan-float3 .ensures)
+    (l .lower2 .result) (number-of l) (c .if1 .left)
 
 pub scan-point-spec : {M : Type 1} → statement M
 scan-point-spec =

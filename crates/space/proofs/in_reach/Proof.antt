@@ -1,9 +1,9 @@
 -- `space::in_reach`: every number before `i` is near; the loop ends at the first that is not.
 use Rattle.ints.specs.Bounds.{element}
+use borrow.Author.Count.{below-more}
 use borrow.Author.Needs.{needs}
 use mathlib.Core.Path.{refl, sym, subst}
-use Rattle.limits.specs.Decides.{holds, fails, unless-taken, unless-left}
-use Rattle.space.specs.Reaching.{near-more}
+use Rattle.limits.specs.DecidesLaws.{holds, fails, unless-taken, unless-left}
 use Rattle.space.specs.Lists.{IsNear}
 use mir.Syntax.{w32}
 use mir.Val.{toZ, ofZ}
@@ -39,7 +39,8 @@ returns c =
     let z = getD (c .before .before .before .before .before .args .s .now) i (pos 0) in
     let r = toZ w32 (ofZ w32 (c .before .before .before .before .before .args .reach)) in
     fails refl (λ h. unless-taken (c .before .near .ensures) (c .if1 .taken)
-    (subst (IsNear r) (sym (element w32 z (c .before .before .near-arg .given))) (subst (λ n. IsNear n z) (sym (toZ-ofZ (c .before .before .before .before .before .fits .reach))) (h .all i (omega arith)))))
+    (subst (IsNear r) (sym (element w32 z (c .before .before .near-arg .given)))
+    (subst (λ n. IsNear n z) (sym (toZ-ofZ (c .before .before .before .before .before .fits .reach))) (h .all i (omega arith)))))
 
 add-i : tie.Need-add-i Inv-loop μ-loop
 add-i c = search needs
@@ -53,7 +54,8 @@ loop-again c =
     let s = c .before .before .before .before .before .args .s .now in
     let r = toZ w32 (ofZ w32 (c .before .before .before .before .before .args .reach)) in (
       omega arith,
-      near-more s i (c .before .before .before .before .loop .inv .1) (subst (IsNear r) (element w32 (getD s i (pos 0)) (c .before .before .near-arg .given)) (unless-left (c .before .near .ensures) (c .if1 .left))),
+      below-more _ i (c .before .before .before .before .loop .inv .1)
+          (subst (IsNear r) (element w32 (getD s i (pos 0)) (c .before .before .near-arg .given)) (unless-left (c .before .near .ensures) (c .if1 .left))),
     )
 
 returns-2 : tie.Need-returns-2 Inv-loop μ-loop

@@ -1,6 +1,6 @@
 -- `space::length_fits`: by three tests, in the order in which they are made.
 use mathlib.Core.Path.{refl}
-use Rattle.limits.specs.Decides.{fails}
+use Rattle.limits.specs.DecidesLaws.{fails}
 use Rattle.space.specs.Reaching.{fits-none, fits-rest, fits-most}
 use Rattle.space.proofs.length_fits.Statement.{statement}
 use Rattle.space.proofs.length_fits.Tie as tie

@@ -4,7 +4,7 @@ use lib.Signed.{leZ}
 use mir.Facts.{toZ-ofZ}
 use Rattle.ints.specs.Bounds.{known, fits}
 use Rattle.ints.specs.Tests.{lt-true, lt-false, tested}
-use Rattle.limits.specs.Decides.{fails, decides-is}
+use Rattle.limits.specs.DecidesLaws.{fails, decides-is}
 use Rattle.space.specs.Reaching.{near-none, near-below, near-decided, reach-most}
 use Rattle.space.proofs.near.Statement.{statement}
 use Rattle.space.proofs.near.Tie as tie

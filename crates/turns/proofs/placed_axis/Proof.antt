@@ -30,7 +30,8 @@ returns c =
     let s = c .before in
     let a = s .args in
     let e : toZ w32 (ofZ w32 (toZ w32 (ofZ w32 (c .turned-axis .result)) +ℤ toZ w32 (ofZ w32 (a .offset)))) ≡ placedAt (a .turn) (a .axis) (a .x) (a .y) (a .z) (a .offset) =
-    sum (c .turned-axis .result) (a .offset) (c .turned-axis .ensures .1) (s .pre .1) ∙ ap (λ (z : ℤ). z +ℤ a .offset) (c .turned-axis .ensures .0 ∙ read-back (turnedAt (a .turn) (a .axis)) (s .fits .x) (s .fits .y) (s .fits .z)) in
+    sum (c .turned-axis .result) (a .offset) (c .turned-axis .ensures .1) (s .pre .1) ∙ ap (λ (z : ℤ). z +ℤ a .offset)
+    (c .turned-axis .ensures .0 ∙ read-back (turnedAt (a .turn) (a .axis)) (s .fits .x) (s .fits .y) (s .fits .z)) in
     (e, rw e (placed-within (a .turn) (a .axis) (s .pre .0 .x-within) (s .pre .0 .y-within) (s .pre .0 .z-within) (s .pre .1)))
 
 pub placed-axis-spec : {M : Type 1} → statement M

@@ -10,8 +10,8 @@ use native.Mathlib.Numerals.{add-one}
 use native.Mathlib.Omega.{arith}
 use lib.ListN.{length, getD, drop, drop-of-length-le}
 use lib.Seq.{drop-cons}
-use Rattle.typed.specs.Decimal.{Digit, number}
-use Rattle.typed.specs.DecimalLaws.{leading, leading-more, leading-stop, numberAfter, number-read, number-cut}
+use Rattle.text_digits.specs.Decimal.{Digit, number}
+use Rattle.text_digits.specs.DecimalLaws.{leading, leading-more, leading-stop, numberAfter, number-read, number-cut}
 use Rattle.typed.specs.Reading.{cut}
 use Rattle.typed.proofs.digits.Statement.{statement}
 use Rattle.typed.proofs.digits.Tie as tie

@@ -7,8 +7,8 @@ use borrow.Author.Needs.{needs}
 use native.Mathlib.Omega.{arith}
 use lib.ListN.{length, drop}
 use Rattle.limits.specs.Limits
-use Rattle.typed.specs.Decimal.{number}
-use Rattle.typed.specs.DecimalLaws.{leading, leading-le, leading-digits, number-few}
+use Rattle.text_digits.specs.Decimal.{number}
+use Rattle.text_digits.specs.DecimalLaws.{leading, leading-le, leading-digits, number-few}
 use Rattle.typed.specs.TypedLength.{Answers}
 use Rattle.typed.specs.Reading.{Few, afterWhole, reading}
 use Rattle.typed.specs.ReadingLaws.{reading-answers, form-refused, form-taken}

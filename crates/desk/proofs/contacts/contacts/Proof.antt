@@ -1,5 +1,5 @@
 -- `desk::contacts::contacts`: a desk in order is listed; else nothing is written.
-use Rattle.limits.specs.Decides.{unless-taken, unless-left}
+use Rattle.limits.specs.DecidesLaws.{unless-taken, unless-left}
 use Rattle.desk.specs.CommandLaws.{contacts-refused, contacts-listed}
 use borrow.Author.Needs.{needs}
 use Rattle.desk.proofs.contacts.contacts.Statement.{statement}
@@ -18,7 +18,8 @@ same-length : tie.Need-same-length
 same-length c = search needs
 
 returns-2 : tie.Need-returns-2
-returns-2 c = contacts-listed (unless-left (c .before .before .before .before .before .desk-in-order .ensures) (c .before .before .before .before .if1 .left)) (c .before .before .list-contacts .ensures)
+returns-2 c =
+    contacts-listed (unless-left (c .before .before .before .before .before .desk-in-order .ensures) (c .before .before .before .before .if1 .left)) (c .before .before .list-contacts .ensures)
 
 pub contacts-spec : {M : Type 1} → statement M
 contacts-spec =

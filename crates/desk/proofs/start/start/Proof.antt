@@ -27,10 +27,10 @@ same-length c = search needs
 
 returns-2 : tie.Need-returns-2
 returns-2 c =
-    let long = c .before .before .before .before .before .before .before .before .before .before .before .before .if1 .left in
+    let long = c .before .before .before .before .before .before .before .before .before .before .if1 .left in
     let p = c .before .before .before .before .before .before .before .start-pieces .ensures in
     let r = c .before .before .before .before .start-rows .ensures in
-    accepts (inr (λ f. f long, refl)) (fresh-is (p .0) (p .1 .0) (p .1 .1 .0) (p .1 .1 .1) (r .0) (r .1) (c .before .before .start-marks .ensures ∙ ap (λ (n : ℕ). replicate n Limits.noMark) long), refl)
+    accepts (inr (λ f. f long, refl)) (fresh-is (p .0) (p .1) (r .0) (r .1) (c .before .before .start-marks .ensures ∙ ap (λ (n : ℕ). replicate n Limits.noMark) long), refl)
 
 pub start-spec : {M : Type 1} → statement M
 start-spec =

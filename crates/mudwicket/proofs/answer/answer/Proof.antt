@@ -1,17 +1,17 @@
--- `mudwicket::answer::answer` meets its contract: by the command that was found.
-use borrow.Author.Needs.{needs}
+-- `mudwicket::answer::answer` meets its contract: by what was found that the line says.
 use Prim.Native.Nat.{min}
 use lib.ListN.{length, getD}
-use Rattle.state.specs.Desk.{deskOf}
+use Rattle.desk_state.specs.Desk.{deskOf}
 use Rattle.mudwicket.specs.AnsweredLaws.{answered-told, answered-asked, answered-spoiled, answered-other}
+use borrow.Author.Needs.{needs}
 use Rattle.mudwicket.proofs.answer.answer.Statement.{statement}
 use Rattle.mudwicket.proofs.answer.answer.Tie as tie
 
 found-requires : tie.Need-found-requires
 found-requires c κs = search needs
 
-enum-known-t : tie.Need-enum-known-t
-enum-known-t c = search needs
+enum-known-command : tie.Need-enum-known-command
+enum-known-command c = search needs
 
 tell-requires : tie.Need-tell-requires
 tell-requires c κs = search needs
@@ -44,7 +44,10 @@ same-length-3 : tie.Need-same-length-3
 same-length-3 c = search needs
 
 returns : tie.Need-returns
-returns c = answered-told (c .before .before .before .before .before .before .before .before .before .before .before .before .before .before .before .before .before .before .before .found .ensures) (c .before .before .before .before .before .before .before .before .before .before .before .before .before .before .before .before .t .given .1) (c .before .before .before .before .tell .ensures)
+returns c =
+    let t = c .before .before .before .before in
+    let k = t .before .before .before .before .before .before .before .before .before .before in
+    answered-told (k .before .before .before .found .ensures) (k .command .given .1) (t .tell .ensures)
 
 same-length-4 : tie.Need-same-length-4
 same-length-4 c = search needs
@@ -59,7 +62,12 @@ same-length-7 : tie.Need-same-length-7
 same-length-7 c = search needs
 
 returns-2 : tie.Need-returns-2
-returns-2 c = let a = c .before .before .before .before .before .before .before .before .before .before .before .before .before .before .before .before .before .before .before .before .before .before .before .before .before .args in answered-asked (c .before .before .before .before .before .before .before .before .before .before .before .before .before .before .before .before .before .before .before .found .ensures) (min (getD (a .lent .now) 1 0) (length (a .marks .now))) (deskOf (a .counts .now) (a .corners .now) (a .poses .now) (a .offsets .now) (a .rows .now) (a .book .now) (a .marks .now)) (c .before .before .before .before .before .before .before .before .before .before .before .before .before .before .before .before .a .given .1)
+returns-2 c =
+    let k = c .before .before .before .before .before .before .before .before .before .before .before .before .before .before in
+    let f = k .before .before .before in
+    let a = f .before .before .before .before .before .before .args in
+    answered-asked (f .found .ensures)
+    (min (getD (a .lent .now) 1 0) (length (a .marks .now))) (deskOf (a .shapes .now) (a .places .now) (a .rows .now) (a .book .now) (a .marks .now)) (k .a .given .1)
 
 same-length-8 : tie.Need-same-length-8
 same-length-8 c = search needs
@@ -71,7 +79,12 @@ same-length-10 : tie.Need-same-length-10
 same-length-10 c = search needs
 
 returns-3 : tie.Need-returns-3
-returns-3 c = let a = c .before .before .before .before .before .before .before .before .before .before .before .before .before .before .before .before .before .before .before .before .before .before .before .args in answered-spoiled (c .before .before .before .before .before .before .before .before .before .before .before .before .before .before .before .before .before .found .ensures) (min (getD (a .lent .now) 1 0) (length (a .marks .now))) (deskOf (a .counts .now) (a .corners .now) (a .poses .now) (a .offsets .now) (a .rows .now) (a .book .now) (a .marks .now)) _ (c .before .before .before .before .before .before .before .before .before .before .before .before .before .before .cell .given .1)
+returns-3 c =
+    let k = c .before .before .before .before .before .before .before .before .before .before .before .before in
+    let f = k .before .before .before in
+    let a = f .before .before .before .before .before .before .args in
+    answered-spoiled (f .found .ensures)
+    (min (getD (a .lent .now) 1 0) (length (a .marks .now))) (deskOf (a .shapes .now) (a .places .now) (a .rows .now) (a .book .now) (a .marks .now)) _ (k .cell .given .1)
 
 same-length-11 : tie.Need-same-length-11
 same-length-11 c = search needs
@@ -83,14 +96,19 @@ same-length-13 : tie.Need-same-length-13
 same-length-13 c = search needs
 
 returns-4 : tie.Need-returns-4
-returns-4 c = let a = c .before .before .before .before .before .before .before .before .before .before .before .before .before .before .before .before .before .before .before .before .args in answered-other (c .before .before .before .before .before .before .before .before .before .before .before .before .before .before .found .ensures) (min (getD (a .lent .now) 1 0) (length (a .marks .now))) (deskOf (a .counts .now) (a .corners .now) (a .poses .now) (a .offsets .now) (a .rows .now) (a .book .now) (a .marks .now)) (c .before .before .before .before .before .before .before .before .before .before .before .o .given .1)
+returns-4 c =
+    let k = c .before .before .before .before .before .before .before .before .before .before .before in
+    let f = k .before .before .before in
+    let a = f .before .before .before .before .before .before .args in
+    answered-other (f .found .ensures)
+    (min (getD (a .lent .now) 1 0) (length (a .marks .now))) (deskOf (a .shapes .now) (a .places .now) (a .rows .now) (a .book .now) (a .marks .now)) (k .o .given .1)
 
 pub answer-spec : {M : Type 1} → statement M
 answer-spec =
     tie.close
     (tie.spec
     found-requires
-    enum-known-t
+    enum-known-command
     tell-requires
     enum-known-a
     ask-requires

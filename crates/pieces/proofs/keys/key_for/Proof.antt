@@ -22,14 +22,14 @@ returns : tie.Need-returns
 returns c =
     let s = c .before .before .before .before in
     let a = s .args in
-    key-taken (storeOf (a .counts .now) (a .corners .now) (a .poses .now) (a .offsets .now)) (a .axis) (a .mark) (c .mark-key .result) (s .pre .2) (c .before .before .before .is-taken .ensures .yes (c .before .before .if1 .taken))
+    key-taken (storeOf (a .shapes .now) (a .places .now)) (a .axis) (a .mark) (c .mark-key .result) (s .pre .2) (c .before .before .before .is-taken .ensures .yes (c .before .before .if1 .taken))
     (worth (k-back w32 _ (k-within (c .before .mark-value .ensures .1))) tt ∙ c .before .mark-value .ensures .0) (c .mark-key .ensures)
 
 returns-2 : tie.Need-returns-2
 returns-2 c =
     let s = c .before .before in
     let a = s .args in
-    key-empty (storeOf (a .counts .now) (a .corners .now) (a .poses .now) (a .offsets .now)) (a .axis) (a .mark) (s .pre .2) (c .before .is-taken .ensures .no (c .if1 .left))
+    key-empty (storeOf (a .shapes .now) (a .places .now)) (a .axis) (a .mark) (s .pre .2) (c .before .is-taken .ensures .no (c .if1 .left))
 
 pub key-for-spec : {M : Type 1} → statement M
 key-for-spec =

@@ -14,10 +14,11 @@ use Rattle.pieces.proofs.keys.keys_of.Statement.{statement}
 use Rattle.pieces.proofs.keys.keys_of.Tie as tie
 
 abbrev Inv-loop : tie.InvT-loop
-Inv-loop counts corners poses offsets axis keys₀ mark₀ keys mark = (mark ≤ Limits.axisMarks) × (length keys ≡ Limits.axisMarks) × ((k : ℕ) → k < mark → getD keys k 0 ≡ keyAt (axisOf (axesOf (storeOf counts corners poses offsets)) axis) k)
+Inv-loop shapes places axis keys₀ mark₀ keys mark =
+    (mark ≤ Limits.axisMarks) × (length keys ≡ Limits.axisMarks) × ((k : ℕ) → k < mark → getD keys k 0 ≡ keyAt (axisOf (axesOf (storeOf shapes places)) axis) k)
 
 abbrev μ-loop : tie.MeasureT-loop
-μ-loop counts corners poses offsets axis keys₀ mark₀ keys mark = Limits.axisMarks - mark
+μ-loop shapes places axis keys₀ mark₀ keys mark = Limits.axisMarks - mark
 
 no-keys-requires : tie.Need-no-keys-requires Inv-loop μ-loop
 no-keys-requires c κs = search needs
@@ -46,11 +47,12 @@ loop-again c =
     let l = c .before .before .loop in (
       omega arith,
       length-set (l .keys) (l .mark) _ ∙ l .inv .1,
-      keys-more (axisOf (axesOf (storeOf (a .counts .now) (a .corners .now) (a .poses .now) (a .offsets .now))) (a .axis)) (l .keys) (l .mark) (c .key-for .result) (omega arith) (l .inv .2) (c .key-for .ensures),
+      keys-more (axisOf (axesOf (storeOf (a .shapes .now) (a .places .now))) (a .axis)) (l .keys) (l .mark) (c .key-for .result) (omega arith) (l .inv .2) (c .key-for .ensures),
     )
 
 returns : tie.Need-returns Inv-loop μ-loop
-returns c = record { ranged = ranged (c .before .before .before .pre .0) (c .before .before .before .args .axis) (c .before .before .before .pre .1); is = λ k h. c .before .loop .inv .2 k (omega arith) }
+returns c =
+    record { ranged = ranged (c .before .before .before .pre .0) (c .before .before .before .args .axis) (c .before .before .before .pre .1); is = λ k h. c .before .loop .inv .2 k (omega arith) }
 
 pub keys-of-spec : {M : Type 1} → statement M
 keys-of-spec =

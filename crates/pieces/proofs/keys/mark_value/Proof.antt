@@ -18,7 +18,7 @@ returns : tie.Need-returns
 returns c =
     let s = c .before .before .before .before in
     let a = s .args in
-    let d = storeOf (a .counts .now) (a .corners .now) (a .poses .now) (a .offsets .now) in
+    let d = storeOf (a .shapes .now) (a .places .now) in
     let w = low-within (s .pre .0 .order) (a .mark / 2) (a .axis) (s .pre .0 .taken) (s .pre .1) in
     let e = worth (k-back w32 _ (k-is (c .before .before .before .piece-ends .ensures .low) (k-within w))) tt in
     (e ∙ value-low d (a .axis) (a .mark) (c .if1 .taken), subst (Within Limits.placedReach) (sym e) w)
@@ -27,7 +27,7 @@ returns-2 : tie.Need-returns-2
 returns-2 c =
     let s = c .before .before .before .before in
     let a = s .args in
-    let d = storeOf (a .counts .now) (a .corners .now) (a .poses .now) (a .offsets .now) in
+    let d = storeOf (a .shapes .now) (a .places .now) in
     let w = high-within (s .pre .0 .order) (a .mark / 2) (a .axis) (s .pre .0 .taken) (s .pre .1) in
     let e = worth (k-back w32 _ (k-is (c .before .before .before .piece-ends .ensures .high) (k-within w))) tt in
     (e ∙ value-high d (a .axis) (a .mark) (c .if1 .left), subst (Within Limits.placedReach) (sym e) w)

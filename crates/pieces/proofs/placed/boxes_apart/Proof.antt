@@ -1,20 +1,21 @@
+use borrow.Author.Count.{below-more}
 use borrow.Author.Needs.{needs}
 use mathlib.Core.Path.{refl}
 use Prim.Native.Nat.{ℕ, _≤_, _<_, _-_}
 use native.Mathlib.Omega.{arith}
-use Rattle.limits.specs.Decides.{holds, fails}
+use Rattle.limits.specs.DecidesLaws.{holds, fails}
 use Rattle.pieces.specs.Pieces.{storeOf}
-use Rattle.pieces.specs.Boxes.{ApartOn, not-apart-more}
+use Rattle.pieces.specs.Boxes.{ApartOn}
 use Rattle.pieces.proofs.placed.boxes_apart.Statement.{statement}
 use Rattle.pieces.proofs.placed.boxes_apart.Tie as tie
 
 -- `pieces::placed::boxes_apart`: no axis before `axis` parts the two.
 
 abbrev Inv-loop : tie.InvT-loop
-Inv-loop counts corners poses offsets p q axis₀ axis = (axis ≤ 3) × ((k : ℕ) → k < axis → ApartOn (storeOf counts corners poses offsets) p q k → ⊥)
+Inv-loop shapes places p q axis₀ axis = (axis ≤ 3) × ((k : ℕ) → k < axis → ApartOn (storeOf shapes places) p q k → ⊥)
 
 abbrev μ-loop : tie.MeasureT-loop
-μ-loop counts corners poses offsets p q axis₀ axis = 3 - axis
+μ-loop shapes places p q axis₀ axis = 3 - axis
 
 loop-holds : tie.Need-loop-holds Inv-loop μ-loop
 loop-holds c = (omega arith, λ k h. absurd (omega arith))
@@ -32,9 +33,7 @@ loop-less : tie.Need-loop-less Inv-loop μ-loop
 loop-less c = search needs
 
 loop-again : tie.Need-loop-again Inv-loop μ-loop
-loop-again c =
-    let a = c .before .before .before .before .args in
-    (omega arith, not-apart-more (storeOf (a .counts .now) (a .corners .now) (a .poses .now) (a .offsets .now)) (a .p) (a .q) (c .before .before .before .loop .axis) (c .before .before .before .loop .inv .1) (c .before .apart-on .ensures .no (c .if1 .left)))
+loop-again c = (omega arith, below-more _ _ (c .before .before .before .loop .inv .1) (c .before .apart-on .ensures .no (c .if1 .left)))
 
 returns-2 : tie.Need-returns-2 Inv-loop μ-loop
 returns-2 c = fails refl (λ a. c .before .loop .inv .1 (a .0) (let h = a .1 in omega arith) (a .2))

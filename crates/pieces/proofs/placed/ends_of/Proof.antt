@@ -15,10 +15,11 @@ use Rattle.pieces.proofs.placed.ends_of.Tie as tie
 -- `pieces::placed::ends_of`: `low` and `high` are the ends of the corners before `i`.
 
 abbrev Inv-loop : tie.InvT-loop
-Inv-loop corners offsets pose place axis n first low₀ high₀ i₀ low high i = (1 ≤ i) × (i ≤ pose .count) × (low ≡ ofZ w32 (leastTo i (λ k. numberAt corners offsets pose place k axis))) × (high ≡ ofZ w32 (greatestTo i (λ k. numberAt corners offsets pose place k axis)))
+Inv-loop shapes places pose place axis n first low₀ high₀ i₀ low high i =
+    (1 ≤ i) × (i ≤ pose .count) × (low ≡ ofZ w32 (leastTo i (λ k. numberAt shapes places pose place k axis))) × (high ≡ ofZ w32 (greatestTo i (λ k. numberAt shapes places pose place k axis)))
 
 abbrev μ-loop : tie.MeasureT-loop
-μ-loop corners offsets pose place axis n first low₀ high₀ i₀ low high i = pose .count - i
+μ-loop shapes places pose place axis n first low₀ high₀ i₀ low high i = pose .count - i
 
 placed-number-requires : tie.Need-placed-number-requires Inv-loop μ-loop
 placed-number-requires c κs = (c .pre .0, c .pre .0 .some, c .pre .1)
@@ -46,7 +47,7 @@ loop-again : tie.Need-loop-again Inv-loop μ-loop
 loop-again c =
     let s = c .before .before .before .before .before .before in
     let l = c .before .before .before .before .loop in
-    let f : ℕ → ℤ = λ k. numberAt (s .args .corners .now) (s .args .offsets .now) (s .args .pose) (s .args .place) k (s .args .axis) in
+    let f : ℕ → ℤ = λ k. numberAt (s .args .shapes .now) (s .args .places .now) (s .args .pose) (s .args .place) k (s .args .axis) in
     let w : (k : ℕ) → k < l .i → Within Limits.placedReach (f k) = λ k h. number-within (s .pre .0) k (s .args .axis) (omega arith) (s .pre .1) in
     let v = worth (k-back w32 _ (k-is (c .before .before .placed-number2 .ensures .0) (k-within (number-within (s .pre .0) (l .i) (s .args .axis) (omega arith) (s .pre .1))))) tt in
     let lo = worth (k-bits w32 (l .low) _ (l .inv .2) (k-within (least-within (l .i) f (l .inv .0) w))) tt in
@@ -61,7 +62,7 @@ returns : tie.Need-returns Inv-loop μ-loop
 returns c =
     let s = c .before .before .before in
     let l = c .before .loop in
-    let f : ℕ → ℤ = λ k. numberAt (s .args .corners .now) (s .args .offsets .now) (s .args .pose) (s .args .place) k (s .args .axis) in
+    let f : ℕ → ℤ = λ k. numberAt (s .args .shapes .now) (s .args .places .now) (s .args .pose) (s .args .place) k (s .args .axis) in
     let w : (k : ℕ) → k < l .i → Within Limits.placedReach (f k) = λ k h. number-within (s .pre .0) k (s .args .axis) (omega arith) (s .pre .1) in
     let e : l .i ≡ s .args .pose .count = omega arith in
     record {

@@ -14,10 +14,12 @@ use Rattle.pieces.proofs.placed.numbers_of.Statement.{statement}
 use Rattle.pieces.proofs.placed.numbers_of.Tie as tie
 
 abbrev Inv-loop : tie.InvT-loop
-Inv-loop corners offsets pose place n numbers₀ k₀ numbers k = (k ≤ 3 * pose .count) × (length numbers ≡ Limits.shapeNumbers) × (take k numbers ≡ listTo k (λ j. numberAt corners offsets pose place (j / 3) (j % 3))) × (drop k numbers ≡ replicate (Limits.shapeNumbers - k) (pos 0))
+Inv-loop shapes places pose place n numbers₀ k₀ numbers k =
+    (k ≤ 3 * pose .count) × (length numbers ≡ Limits.shapeNumbers) × (take k numbers ≡ listTo k (λ j. numberAt shapes places pose place (j / 3) (j % 3))) ×
+    (drop k numbers ≡ replicate (Limits.shapeNumbers - k) (pos 0))
 
 abbrev μ-loop : tie.MeasureT-loop
-μ-loop corners offsets pose place n numbers₀ k₀ numbers k = 3 * pose .count - k
+μ-loop shapes places pose place n numbers₀ k₀ numbers k = 3 * pose .count - k
 
 no-numbers-requires : tie.Need-no-numbers-requires Inv-loop μ-loop
 no-numbers-requires c κs = search needs
@@ -51,7 +53,8 @@ loop-again c =
     let v = worth (k-back w32 _ (k-within (c .placed-number .ensures .1))) tt in (
       omega arith,
       length-set (l .numbers) (l .k) _ ∙ l .inv .1,
-      stored-more (l .numbers) (l .k) (λ j. numberAt (s .args .corners .now) (s .args .offsets .now) (s .args .pose) (s .args .place) (j / 3) (j % 3)) _ (omega arith) (l .inv .2) (v ∙ c .placed-number .ensures .0),
+      stored-more (l .numbers) (l .k) (λ j. numberAt (s .args .shapes .now) (s .args .places .now) (s .args .pose) (s .args .place) (j / 3) (j % 3)) _ (omega arith) (l .inv .2)
+          (v ∙ c .placed-number .ensures .0),
       zeros-more (l .numbers) (l .k) Limits.shapeNumbers _ (omega arith) (l .inv .3),
     )
 
@@ -61,7 +64,7 @@ returns c =
     let l = c .before .loop in
     let e : l .k ≡ 3 * s .pose .count = omega arith in
     record {
-      is = subst (λ k. take k (l .numbers) ≡ listTo k (λ j. numberAt (s .corners .now) (s .offsets .now) (s .pose) (s .place) (j / 3) (j % 3))) e (l .inv .2);
+      is = subst (λ k. take k (l .numbers) ≡ listTo k (λ j. numberAt (s .shapes .now) (s .places .now) (s .pose) (s .place) (j / 3) (j % 3))) e (l .inv .2);
       rest = subst (λ k. drop k (l .numbers) ≡ replicate (Limits.shapeNumbers - k) (pos 0)) e (l .inv .3);
     }
 

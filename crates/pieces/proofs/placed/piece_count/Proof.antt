@@ -10,7 +10,8 @@ pose-of-requires : tie.Need-pose-of-requires
 pose-of-requires c κs = asked (c .pre .order) (c .args .place) (c .pre .taken)
 
 returns : tie.Need-returns
-returns c = (ap (λ p. p .count) (c .pose-of .ensures), subst (λ p. p .count ≤ Limits.corners) (sym (c .pose-of .ensures)) (held (c .before .pre .order) (c .before .args .place) (c .before .pre .taken) .few))
+returns c =
+    (ap (λ p. p .count) (c .pose-of .ensures), subst (λ p. p .count ≤ Limits.corners) (sym (c .pose-of .ensures)) (held (c .before .pre .order) (c .before .args .place) (c .before .pre .taken) .few))
 
 pub piece-count-spec : {M : Type 1} → statement M
 piece-count-spec = tie.close (tie.spec pose-of-requires returns)

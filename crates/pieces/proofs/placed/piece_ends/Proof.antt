@@ -3,7 +3,7 @@ use mathlib.Core.Path.{sym, subst}
 use Rattle.pieces.specs.Pieces.{storeOf}
 use Rattle.pieces.specs.Placed.{Held, EndsOf}
 use Rattle.pieces.specs.Store.{asked, held}
-use Rattle.pieces.specs.Boxes.{ends-at}
+use Rattle.pieces.specs.BoxLaws.{ends-at}
 use Rattle.pieces.proofs.placed.piece_ends.Statement.{statement}
 use Rattle.pieces.proofs.placed.piece_ends.Tie as tie
 
@@ -13,13 +13,13 @@ pose-of-requires c κs = asked (c .pre .0 .order) (c .args .place) (c .pre .0 .t
 ends-of-requires : tie.Need-ends-of-requires
 ends-of-requires c κs =
     let s = c .before in
-    (subst (λ p. Held (s .args .corners .now) (s .args .offsets .now) p (s .args .place)) (sym (c .pose-of .ensures)) (held (s .pre .0 .order) (s .args .place) (s .pre .0 .taken)), s .pre .1)
+    (subst (λ p. Held (s .args .shapes .now) (s .args .places .now) p (s .args .place)) (sym (c .pose-of .ensures)) (held (s .pre .0 .order) (s .args .place) (s .pre .0 .taken)), s .pre .1)
 
 returns : tie.Need-returns
 returns c =
     let a = c .before .before .args in
-    ends-at (storeOf (a .counts .now) (a .corners .now) (a .poses .now) (a .offsets .now)) (a .place) (a .axis) _
-    (subst (λ p. EndsOf (a .corners .now) (a .offsets .now) p (a .place) (a .axis) (c .ends-of .result)) (c .before .pose-of .ensures) (c .ends-of .ensures))
+    ends-at (storeOf (a .shapes .now) (a .places .now)) (a .place) (a .axis) _
+    (subst (λ p. EndsOf (a .shapes .now) (a .places .now) p (a .place) (a .axis) (c .ends-of .result)) (c .before .pose-of .ensures) (c .ends-of .ensures))
 
 pub piece-ends-spec : {M : Type 1} → statement M
 piece-ends-spec = tie.close (tie.spec pose-of-requires ends-of-requires returns)

@@ -59,6 +59,9 @@ mul-offset c = search needs
 add-offset : tie.Need-add-offset
 add-offset c = search needs
 
+add-offset-2 : tie.Need-add-offset-2
+add-offset-2 c = search needs
+
 mul-offset-2 : tie.Need-mul-offset-2
 mul-offset-2 c = search needs
 
@@ -83,7 +86,9 @@ unfolding numberAt
 returns c =
     let e = c .placed-axis .ensures in
     let b = worth (k-back w32 _ (k-within (e .1))) tt in (
-      b ∙ e .0 ∙ placed-eq (c .before .before .before .before .before .args .pose .turn) (c .before .before .before .before .before .args .axis) (element w32 _ (c .before .before .before .before .x .given)) (element w32 _ (c .before .before .before .y .given)) (element w32 _ (c .before .before .z .given)) (element w32 _ (c .before .offset .given)),
+      b ∙ e .0 ∙ placed-eq (c .before .before .before .before .before .args .pose .turn) (c .before .before .before .before .before .args .axis)
+          (element w32 _ (c .before .before .before .before .x .given)) (element w32 _ (c .before .before .before .y .given)) (element w32 _ (c .before .before .z .given))
+          (element w32 _ (c .before .offset .given)),
       subst (Within Limits.placedReach) (sym b) (e .1),
     )
 
@@ -107,6 +112,7 @@ placed-number-spec =
     element-copy-out-z
     mul-offset
     add-offset
+    add-offset-2
     mul-offset-2
     element-copy-out-offset
     placed-axis-requires

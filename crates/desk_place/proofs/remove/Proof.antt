@@ -1,0 +1,82 @@
+-- `desk_place::remove`: the order of the desk, the place, and then it is emptied.
+-- Assumes nothing.
+use mathlib.Core.Path.{refl}
+use mathlib.Core.Logic.{inl}
+use native.Mathlib.Omega.{arith}
+use mir.Facts.{toZ-ofZ}
+use Rattle.limits.specs.DecidesLaws.{unless-taken, unless-left}
+use Rattle.desk_state.specs.Desk.{deskOf}
+use Rattle.desk.specs.CommandLaws.{refuses}
+use Rattle.desk_place.specs.Placing.{remove-refused, may-remove, removed}
+use borrow.Author.Needs.{needs}
+use Rattle.desk_place.proofs.remove.Statement.{statement}
+use Rattle.desk_place.proofs.remove.Tie as tie
+
+desk-in-order-requires : tie.Need-desk-in-order-requires
+desk-in-order-requires c κs = search needs
+
+same-length : tie.Need-same-length
+same-length c = search needs
+
+returns : tie.Need-returns
+returns c =
+    refuses (inl (unless-taken (c .before .desk-in-order .ensures) (c .if1 .taken), refl)) (omega arith)
+
+taken-refusal-requires : tie.Need-taken-refusal-requires
+taken-refusal-requires c κs = search needs
+
+same-length-2 : tie.Need-same-length-2
+same-length-2 c = search needs
+
+returns-2 : tie.Need-returns-2
+returns-2 c =
+    let k = c .before in
+    let u = k .before .before in
+    let s = u .before .before .before .before .before .before .before in
+    let a = s .args in
+    remove-refused (deskOf (a .shapes .now) (a .places .now) (a .rows .now) (a .book .now) (a .marks .now)) (a .place) (toZ-ofZ (s .fits .place))
+    (unless-left (u .before .desk-in-order .ensures) (u .if1 .left)) (k .taken-refusal .result) (k .taken-refusal .ensures) (c .if2 .taken)
+
+index-of-requires : tie.Need-index-of-requires
+index-of-requires c κs = search needs
+
+empty-place-requires : tie.Need-empty-place-requires
+empty-place-requires c κs =
+    let i = c .before .before .before .before in
+    let t = i .before in
+    let k = t .before in
+    let u = k .before .before in
+    let s = u .before .before .before .before .before .before .before in
+    let a = s .args in
+    may-remove (deskOf (a .shapes .now) (a .places .now) (a .rows .now) (a .book .now) (a .marks .now)) (a .place) (toZ-ofZ (s .fits .place))
+    (unless-left (u .before .desk-in-order .ensures) (u .if1 .left)) (k .taken-refusal .result) (k .taken-refusal .ensures) (t .if2 .left) (i .index-of .ensures)
+
+same-length-3 : tie.Need-same-length-3
+same-length-3 c = search needs
+
+returns-3 : tie.Need-returns-3
+returns-3 c =
+    let m = c .before .before in
+    let i = m .before .before .before .before .before in
+    let t = i .before in
+    let k = t .before in
+    let u = k .before .before in
+    let s = u .before .before .before .before .before .before .before in
+    let a = s .args in
+    removed (deskOf (a .shapes .now) (a .places .now) (a .rows .now) (a .book .now) (a .marks .now)) (a .place) (toZ-ofZ (s .fits .place))
+    (unless-left (u .before .desk-in-order .ensures) (u .if1 .left)) (k .taken-refusal .result) (k .taken-refusal .ensures) (t .if2 .left) (i .index-of .ensures) (m .empty-place .ensures)
+
+pub remove-spec : {M : Type 1} → statement M
+remove-spec =
+    tie.close
+    (tie.spec
+    desk-in-order-requires
+    same-length
+    returns
+    taken-refusal-requires
+    same-length-2
+    returns-2
+    index-of-requires
+    empty-place-requires
+    same-length-3
+    returns-3)

@@ -1,0 +1,5 @@
+pub mod Held
+pub mod Behind
+pub mod BehindLaws
+pub mod Named
+pub mod NamedLaws

@@ -1,4 +1,0 @@
-pub mod Asked
-pub mod Index
-pub mod IndexLaws
-pub mod Parts

@@ -1,4 +1,0 @@
-pub mod Ends
-pub mod Gather
-pub mod NoPairs
-pub mod Points

@@ -1,0 +1,45 @@
+use borrow.Author.Needs.{needs}
+use mathlib.Core.Path.{_≡_, subst}
+use Prim.Native.Nat.{_≤_, _-_}
+use native.Mathlib.Omega.{arith}
+use Rattle.limits.specs.Limits
+use Rattle.rows.specs.Rows.{Handled}
+use Rattle.rows.specs.Handling.{handled-none}
+use Rattle.pieces.specs.Pieces.{storeOf}
+use Rattle.rows_right.specs.Right.{RowRight}
+use Rattle.rows_right.proofs.row.put_rows.Statement.{statement}
+use Rattle.rows_right.proofs.row.put_rows.Tie as tie
+
+-- `rows_right::row::put_rows`: the rows with every place before `other` are right.
+
+abbrev Inv-loop : tie.InvT-loop
+Inv-loop shapes places rows₀ place other₀ rows other = (other ≤ Limits.places) × Handled (RowRight (storeOf shapes places)) places place other rows₀ rows
+
+abbrev μ-loop : tie.MeasureT-loop
+μ-loop shapes places rows₀ place other₀ rows other = Limits.places - other
+
+loop-holds : tie.Need-loop-holds Inv-loop μ-loop
+loop-holds c = (omega arith, handled-none (c .args .rows .now))
+
+put-pair-requires : tie.Need-put-pair-requires Inv-loop μ-loop
+put-pair-requires c κs = (c .before .before .before .pre, omega arith)
+
+add-other : tie.Need-add-other Inv-loop μ-loop
+add-other c = search needs
+
+loop-less : tie.Need-loop-less Inv-loop μ-loop
+loop-less c = search needs
+
+loop-again : tie.Need-loop-again Inv-loop μ-loop
+loop-again c = (omega arith, c .put-pair .ensures .step _ (c .before .before .before .loop .inv .1))
+
+returns : tie.Need-returns Inv-loop μ-loop
+returns c =
+    let s = c .before .before .args in
+    let e : c .before .loop .other ≡ Limits.places = omega arith in
+    subst (λ n. Handled (RowRight (storeOf (s .shapes .now) (s .places .now))) (s .places .now) (s .place) n (s .rows .now) (c .before .loop .rows)) e (c .before .loop .inv .1)
+
+pub put-rows-spec : {M : Type 1} → statement M
+put-rows-spec =
+    tie.close
+    (tie.spec Inv-loop μ-loop loop-holds put-pair-requires add-other loop-less loop-again returns)

@@ -1,0 +1,24 @@
+-- The tallies of a desk, in the words of document 01, "Rows": how many rows hold each verdict, and how many places are taken.
+-- The first four cells of the book are the tallies of the verdicts 0 to 3.
+use Prim.Native.Nat.{ℕ, _≤_}
+use mathlib.Core.Path.{_≡_}
+use mathlib.Core.List.{List}
+use lib.IntN.{ℤ}
+use lib.ListN.{length, getD}
+use Rattle.limits.specs.Limits
+use Rattle.ints.specs.Counts.{oneIf, sumTo, countOf}
+use Rattle.pieces.specs.Pieces.{takenIn}
+use Rattle.rows.specs.Rows.{Verdict}
+
+-- "Four tallies count the verdicts"; "the tallies count the rows". The rest of the book is 0
+pub record BookInOrder (rows book : List ℕ) : Type 0 where
+  pub size : length book ≡ Limits.book
+  pub counts : (v : ℕ) → Verdict v → getD book v 0 ≡ countOf v rows
+  pub rest : (k : ℕ) → Limits.tallies ≤ k → getD book k 0 ≡ 0
+
+-- "with n places taken": how many are
+abbrev pub oneIfTaken : List ℤ → ℕ → ℕ
+oneIfTaken places p = oneIf (takenIn places p)
+
+abbrev pub takenPlaces : List ℤ → ℕ
+takenPlaces places = sumTo Limits.places (oneIfTaken places)

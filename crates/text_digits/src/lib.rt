@@ -1,0 +1,2 @@
+// Decimal numbers as text: what digits name, for typed lengths, numbers of a line and what is printed.
+// Definitions and laws only.

@@ -1,0 +1,74 @@
+-- That only witnesses may vary: what two answers share which are allowed for one question.
+-- One law, for the pair question on two lists (here) and on two places (crate `desk`, CommandLaws).
+use mathlib.Core.Path.{_≡_, sym, ap, _∙_}
+use Prim.Native.Nat.{_≤_}
+use native.Mathlib.Decide.{ℕ-discrete}
+use native.Mathlib.Omega.{arith}
+use lib.Seq.{ext-getD}
+use Rattle.limits.specs.Limits.{done}
+use Rattle.limits.specs.LowestLaws.{lowest-once}
+use Rattle.space.specs.Verdicts.{Piece, separate, penetrating}
+use Rattle.space.specs.Exclusion.{verdict-once}
+use Rattle.verdict_walk.specs.NoPairs.{noPair, noPairs}
+use Rattle.verdict_walk.specs.GatherLaws.{none-at}
+use Rattle.verdict.specs.declared.Answer.{Answer}
+use Rattle.verdict.specs.Answers.{refusals, nothing, Carries, Answers}
+
+-- an answer carries no more than four pairs
+pub carries-few : {A B : Piece} {r : Answer} → Carries A B r → r .count ≤ 4
+carries-few {r = r} c = go (ℕ-discrete (r .verdict) separate)
+  where
+    go : Dec (r .verdict ≡ separate) → r .count ≤ 4
+    go (yes e) = let z = c .unpaired e in omega arith
+    go (no f) = c .paired f .1
+
+-- separate pieces: four zero pairs
+no-pairs : {A B : Piece} {r : Answer} → Carries A B r → r .verdict ≡ separate → r .pairs ≡ noPairs
+no-pairs {r = r} c e = ext-getD noPair (r .pairs) noPairs (c .four) (λ k h. c .rest k (let z = c .unpaired e in omega arith) ∙ sym (none-at k))
+
+-- number and verdict are one; a refused answer is one to its last field; so are the count and the pairs of separate pieces, and the direction of penetrating ones
+pub record OneAnswer (q r : Answer) : Type 0 where
+  pub number : q .number ≡ r .number
+  pub verdict : q .verdict ≡ r .verdict
+  pub refused : (q .number ≡ done → ⊥) → q ≡ r
+  pub unpaired : q .verdict ≡ separate → (q .count ≡ r .count) × (q .pairs ≡ r .pairs)
+  pub undirected : q .verdict ≡ penetrating → q .direction ≡ r .direction
+
+-- two answers with one number, of which each is all zero where it is refused and else carries a verdict of the same two pieces
+module _ {A B : Piece} {q r : Answer} (same : q .number ≡ r .number) (zq : (q .number ≡ done → ⊥) → q ≡ nothing (q .number)) (zr : (r .number ≡ done → ⊥) → r ≡ nothing (r .number)) (cq : q .number ≡ done → Carries A B q) (cr : r .number ≡ done → Carries A B r) where
+  equal : (q .number ≡ done → ⊥) → q ≡ r
+  equal f = zq f ∙ ap nothing same ∙ sym (zr (λ z. f (same ∙ z)))
+
+  pub one-answer : OneAnswer q r
+  one-answer = go (ℕ-discrete (q .number) done)
+    where
+      go : Dec (q .number ≡ done) → OneAnswer q r
+      go (yes z) =
+          let c = cq z in
+          let d = cr (sym same ∙ z) in
+          let v = verdict-once (c .right) (d .right) in
+          record {
+            number = same;
+            verdict = v;
+            refused = λ f. absurd (f z);
+            unpaired = λ e. (c .unpaired e ∙ sym (d .unpaired (sym v ∙ e)), no-pairs c e ∙ sym (no-pairs d (sym v ∙ e)));
+            undirected = λ e. c .undirected e ∙ sym (d .undirected (sym v ∙ e));
+          }
+      go (no f) =
+          let e = equal f in
+          record {
+            number = same;
+            verdict = ap (λ (x : Answer). x .verdict) e;
+            refused = equal;
+            unpaired = λ _.
+                (ap (λ (x : Answer). x .count) e, ap (λ (x : Answer). x .pairs) e);
+            undirected = λ _. ap (λ (x : Answer). x .direction) e;
+          }
+
+-- two answers allowed for the same lists
+pub answers-once : {A B : Piece} {q r : Answer} → Answers A B q → Answers A B r → OneAnswer q r
+answers-once {A} {B} a b = one-answer (lowest-once (refusals A B) (a .refusal) (b .refusal)) (a .zeros) (b .zeros) (a .carries) (b .carries)
+
+-- two answers with a verdict of the same two pieces
+pub verdicts-once : {A B : Piece} {q r : Answer} → (q .number ≡ done) × Carries A B q → (r .number ≡ done) × Carries A B r → OneAnswer q r
+verdicts-once a b = one-answer (a .0 ∙ sym (b .0)) (λ f. absurd (f (a .0))) (λ f. absurd (f (b .0))) (λ _. a .1) (λ _. b .1)

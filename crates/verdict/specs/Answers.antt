@@ -1,0 +1,55 @@
+-- THE ANSWER to the pair question on two lent lists of placed corners, as document 01 has it: the refusals, the verdict, what it carries.
+-- No proof stands here: that only witnesses may vary between two answers is in AnswerLaws.
+use mathlib.Core.Path.{_≡_}
+use mathlib.Core.List.{List, [], _∷_}
+use mathlib.Core.Logic.{_⊎_}
+use Prim.Native.Nat.{ℕ, _≤_}
+use lib.ListN.{length, take, getD}
+use Rattle.limits.specs.Limits.{listLength, placedRange, placedReach, directionReach, done}
+use Rattle.limits.specs.Lowest.{Refusal, Lowest, _when_}
+use Rattle.space.specs.declared.Pair.{Pair}
+use Rattle.space.specs.Vectors.{origin}
+use Rattle.space.specs.Ranges.{Upto}
+use Rattle.space.specs.Verdicts.{Piece, Below, Supported, Balance, VerdictIs, separate, touching, penetrating}
+use Rattle.space.specs.Lists.{LengthFits, InReach}
+use Rattle.verdict_walk.specs.NoPairs.{noPair, noPairs}
+use Rattle.verdict.specs.declared.Answer.{Answer}
+
+-- 3: "a corner list's length isn't 3 × (1 to 32)"
+abbrev pub BadLength : Piece → Piece → Type 0
+BadLength A B = (LengthFits (length A) → ⊥) ⊎ (LengthFits (length B) → ⊥)
+
+-- 20: "a placed corner of a lent list .. beyond ±131,072"
+abbrev pub OutOfReach : Piece → Piece → Type 0
+OutOfReach A B = (InReach placedReach A → ⊥) ⊎ (InReach placedReach B → ⊥)
+
+abbrev pub refusals : Piece → Piece → List Refusal
+refusals A B = listLength when BadLength A B ∷ placedRange when OutOfReach A B ∷ []
+
+-- the pairs that an answer carries are the first `count` of its four
+abbrev pub carried : Answer → List Pair
+carried r = take (r .count) (r .pairs)
+
+-- "Every other value in the answer is zero"
+abbrev pub nothing : ℕ → Answer
+nothing n = record { number = n; verdict = 0; direction = origin; count = 0; pairs = noPairs }
+
+-- what an answer with a verdict carries: "components within 2^39 in size", and "one to four pairs" where the pieces meet.
+-- "Fields that a verdict doesn't carry are zero": of its four pairs every one from `count` on
+pub record Carries (A B : Piece) (r : Answer) : Type 0 where
+  pub right : VerdictIs A B (r .verdict)
+  pub small : Upto directionReach (r .direction)
+  pub parting : r .verdict ≡ separate → Below (r .direction) A B
+  pub supporting : r .verdict ≡ touching → Supported (r .direction) A B
+  pub undirected : r .verdict ≡ penetrating → r .direction ≡ origin
+  pub unpaired : r .verdict ≡ separate → r .count ≡ 0
+  pub paired : (r .verdict ≡ separate → ⊥) → (1 ≤ r .count) × (r .count ≤ 4)
+  pub meeting : (r .verdict ≡ separate → ⊥) → Balance A B (carried r)
+  pub four : length (r .pairs) ≡ 4
+  pub rest : (k : ℕ) → r .count ≤ k → getD (r .pairs) k noPair ≡ noPair
+
+-- the whole promise: for every two lists
+pub record Answers (A B : Piece) (r : Answer) : Type 0 where
+  pub refusal : Lowest (refusals A B) (r .number)
+  pub zeros : (r .number ≡ done → ⊥) → r ≡ nothing (r .number)
+  pub carries : r .number ≡ done → Carries A B r

@@ -1,0 +1,377 @@
+-- From the ends of the two walks to the verdict and what it carries.
+-- Strict walk: separate, or a meeting; where that is flat, touching; else the weak walk: touching, or penetrating.
+use mathlib.Core.Path.{_≡_, refl, sym, ap, _∙_, subst}
+use mathlib.Core.List.{List, [], _∷_}
+use mathlib.Core.Bool.{Bool, true, false}
+use mathlib.Core.Logic.{_⊎_, inl, inr, ⊎-elim}
+use Prim.Native.Nat.{ℕ, _+_, _≤_}
+use native.Mathlib.Omega.{arith}
+use lib.Dec.{T}
+use lib.ListN.{length, take, getD, length-take}
+use lib.IntN.{ℤ, pos, negℤ, _+ℤ_, _-ℤ_, _*ℤ_, *ℤ-zero, +ℤ-idl}
+use lib.Signed.{_≤ℤ_, _<ℤ_, clashℤ}
+use Rattle.ints.specs.Quote.{sides, by-ring}
+use Rattle.ints.specs.Order.{trichotomy, lt→≤ℤ, <ℤ-cancel, ≤ℤ-trans}
+use Rattle.ints.specs.Bounds.{Within, known, within, within-upper}
+use Rattle.ints.specs.Sign.{Under, gt-other}
+use Rattle.limits.specs.Decides.{Decides}
+use Rattle.limits.specs.Limits.{weightMost, directionReach, placedReach, placedRange, listLength}
+use Rattle.space.specs.declared.Vec3.{Vec3}
+use Rattle.space.specs.declared.Pair.{Pair}
+use Rattle.space.specs.Vectors.{dot, det, normal, env1, origin}
+use Rattle.space.specs.Ranges.{Upto, pointReach, shiftReach, weightReach}
+use Rattle.space.specs.Verdicts.{Piece, Below, Supported, Balance, touching, penetrating}
+use Rattle.space.specs.Lists.{LengthFits, InReach, Placed}
+use Rattle.verdict_portal.specs.declared.Three.{Three}
+use Rattle.verdict_portal.specs.Portal.{ZeroSum, depth, cramer}
+use Rattle.verdict_portal.specs.Sizes.{bigK, posK, front-under, start, start-turned, start-shifted, plain, plain-nn}
+use Rattle.verdict_portal.specs.Step.{Setting, Held, Met}
+use Rattle.verdict_portal.specs.Exits.{sum3, w1, w2, wall-some}
+use Rattle.verdict_portal.specs.Flat.{Drops, f4}
+use Rattle.verdict_walk.specs.declared.support.Point.{Point}
+use Rattle.verdict_walk.specs.declared.path.Portal.{Portal}
+use Rattle.verdict_walk.specs.declared.path.Ended.{Ended}
+use Rattle.verdict_frame.specs.declared.frame.Frame.{Frame}
+use Rattle.verdict_walk.specs.declared.gather.Gathered.{Gathered}
+use Rattle.verdict_walk.specs.NoPairs.{noPair, noPairs}
+use Rattle.verdict_walk.specs.Points.{Spread, Tagged}
+use Rattle.verdict_walk.specs.PointLaws.{spread-of, below-of, not-above-of, walled-by}
+use Rattle.verdict_walk.specs.Ends.{Ground, Begun, Walked, Corners, Near}
+use Rattle.verdict_walk.specs.EndLaws.{point-upto}
+use Rattle.verdict_frame.specs.Frames.{Framed, Dropping, framePlaces, Started}
+use Rattle.verdict_frame.specs.FrameLaws.{origin-upto}
+use Rattle.verdict_walk.specs.Gather.{baseOf, Gather, Weighed}
+use Rattle.verdict_walk.specs.GatherLaws.{weight-within, minus-within, none-at, gather-none, gather-more, count-grows}
+use Rattle.verdict.specs.declared.Answer.{Answer}
+use Rattle.verdict.specs.Answers.{nothing, BadLength, OutOfReach, Carries, Answers}
+
+-- ---- what the walks of a frame begin with
+module _ {A B : Piece} {f : Frame} (pa : Placed A) (pb : Placed B) (k : Framed A B f) where
+  pub ground : Ground A B (f .widths)
+  ground = record { first = pa; second = pb; box = k .box }
+
+  pub frame-corners : {v : Three} → v ≡ framePlaces f → Corners v
+  frame-corners e = subst Corners (sym e) (record { ina = point-upto ground (k .ofa); inb = point-upto ground (k .ofb); inc = point-upto ground (k .ofc) })
+
+  cs : Corners (framePlaces f)
+  cs = frame-corners refl
+
+  set-at : (q : Vec3) → Upto shiftReach q → Setting q (f .a .at) (f .b .at) (f .c .at)
+  set-at q u = record { inq = u; in1 = cs .ina; in2 = cs .inb; in3 = cs .inc; free = k .free }
+
+  pub begun-strict : {q : Vec3} {v : Three} {t : Portal} → q ≡ origin → v ≡ framePlaces f → Started f t → Begun A B (f .widths) q v t
+  begun-strict {q} {v} {t} eq ev s = subst (λ w. Begun A B (f .widths) w v t) (sym eq) (subst (λ w. Begun A B (f .widths) origin w t) (sym ev) (⊎-elim
+      (λ h. subst (Begun A B (f .widths) origin (framePlaces f)) (sym (h .1)) (first (h .0)))
+      (λ h. subst (Begun A B (f .widths) origin (framePlaces f)) (sym (h .1)) (second (above (h .0)))) s))
+    where
+      o : Upto shiftReach origin
+      o = origin-upto shiftReach
+
+      above : pos 0 ≤ℤ det (f .a .at) (f .b .at) (f .c .at) → pos 0 <ℤ det (f .a .at) (f .b .at) (f .c .at)
+      above h = ⊎-elim (λ l. absurd (clashℤ l h)) (⊎-elim (λ l. absurd (k .free l)) (λ l. l)) (trichotomy (det (f .a .at) (f .b .at) (f .c .at)) (pos 0))
+
+      first : det (f .a .at) (f .b .at) (f .c .at) <ℤ pos 0 → Begun A B (f .widths) origin (framePlaces f) (record { a = f .a; b = f .b; c = f .c })
+      first d = record {
+        setting = set-at origin o;
+        held = record { ina = cs .ina; inb = cs .inb; inc = cs .inc; inv = start-shifted o (cs .ina) (cs .inb) (cs .inc) (cs .ina) (cs .inb) (cs .inc) (start (f .a .at) (f .b .at) (f .c .at) d) };
+        ofa = k .ofa;
+        ofb = k .ofb;
+        ofc = k .ofc;
+      }
+
+      second : pos 0 <ℤ det (f .a .at) (f .b .at) (f .c .at) → Begun A B (f .widths) origin (framePlaces f) (record { a = f .a; b = f .c; c = f .b })
+      second d = record {
+        setting = set-at origin o;
+        held =
+            record { ina = cs .ina; inb = cs .inc; inc = cs .inb; inv = start-shifted o (cs .ina) (cs .inc) (cs .inb) (cs .ina) (cs .inb) (cs .inc) (start-turned (f .a .at) (f .b .at) (f .c .at) d) };
+        ofa = k .ofa;
+        ofb = k .ofc;
+        ofc = k .ofb;
+      }
+
+  -- the strict walk's end, with what it began with put in
+  pub strict : {q : Vec3} {v : Three} {e : Ended} → q ≡ origin → v ≡ framePlaces f → Walked A B (f .widths) q v e → Walked A B (f .widths) origin (framePlaces f) e
+  strict {q} {v} {e} eq ev w = subst (λ u. Walked A B (f .widths) u (framePlaces f) e) eq (subst (λ u. Walked A B (f .widths) q u e) ev w)
+
+  sum-upto : Upto shiftReach (sum3 (f .a .at) (f .b .at) (f .c .at))
+  sum-upto = go (f .a .at) (f .b .at) (f .c .at) (cs .ina) (cs .inb) (cs .inc)
+    where
+      go : (a b c : Vec3) → Upto pointReach a → Upto pointReach b → Upto pointReach c → Upto shiftReach (sum3 a b c)
+      go a b c u v w = record { ux = within (search known depth 9) tt; uy = within (search known depth 9) tt; uz = within (search known depth 9) tt }
+
+  pub begun-weak : {q : Vec3} {v : Three} {e : Ended} → q ≡ sum3 (f .a .at) (f .b .at) (f .c .at) → v ≡ framePlaces f → Walked A B (f .widths) origin (framePlaces f) e
+      → Begun A B (f .widths) q v (e .portal)
+  begun-weak {q} {v} {e} eq ev w = subst (λ u. Begun A B (f .widths) u v (e .portal)) (sym eq) (subst (λ u. Begun A B (f .widths) (sum3 (f .a .at) (f .b .at) (f .c .at)) u (e .portal)) (sym ev)
+      (let h = w .begun .held in
+      record {
+        setting = set-at (sum3 (f .a .at) (f .b .at) (f .c .at)) sum-upto;
+        held = record {
+          ina = h .ina;
+          inb = h .inb;
+          inc = h .inc;
+          inv =
+              start-shifted sum-upto (h .ina) (h .inb) (h .inc) (cs .ina) (cs .inb) (cs .inc)
+              (plain (e .portal .a .at) (e .portal .b .at) (e .portal .c .at) (f .a .at) (f .b .at) (f .c .at) (h .inv));
+        };
+        ofa = w .begun .ofa;
+        ofb = w .begun .ofb;
+        ofc = w .begun .ofc;
+      }))
+
+  -- ---- apart: separate
+  pub separate-by : {e : Ended} → Walked A B (f .widths) origin (framePlaces f) e → e .met ≡ false → Below (e .normal) A B
+  separate-by {e} w t =
+      below-of (f .widths) n
+      (λ y m. <ℤ-cancel {a = dot n y} {b = pos 0} bigK posK
+      (subst (λ z. z <ℤ (bigK *ℤ pos 0)) (flat bigK (dot n y)) (subst (λ z. (bigK *ℤ dot n y +ℤ dot n origin) <ℤ z) (sym (*ℤ-zero bigK)) (w .apart t .all y m))))
+    where
+      n : Vec3
+      n = e .normal
+
+      flat : (u v : ℤ) → u *ℤ v +ℤ dot n origin ≡ u *ℤ v
+      flat u v = by-ring (u ∷ v ∷ env1 n []) (search sides depth 9) refl
+
+-- ---- the weights of a meeting
+weight-most : {z : ℤ} → Within weightReach z → z ≤ℤ pos weightMost
+weight-most w = ≤ℤ-trans (within-upper w) (record { le = tt })
+
+drops : {A B : Piece} {g : Vec3} {p : Point} (d : Dropping A B g) → Tagged A B g p → Drops (d .k) (d .r1) (d .r2) (d .r3) (p .at) (baseOf A B p)
+drops {A} {B} {g} {p} d t = subst (λ v. Drops (d .k) (d .r1) (d .r2) (d .r3) v (baseOf A B p)) (sym (t .is)) (d .drop (p .first) (p .second) (t .of-first) (t .of-second) (t .signs) (t .are))
+
+pub record Weights (A B : Piece) (r : Gathered) : Type 0 where
+  pub counted : (1 ≤ r .count) × (r .count ≤ 4)
+  pub balance : Balance A B (take (r .count) (r .pairs))
+  pub four : length (r .pairs) ≡ 4
+  pub rest : (k : ℕ) → r .count ≤ k → getD (r .pairs) k noPair ≡ noPair
+
+pub weights : {A B : Piece} {f : Frame} {e : Ended} {r : Gathered} (pa : Placed A) (pb : Placed B) (k : Framed A B f) → Walked A B (f .widths) origin (framePlaces f) e → e .met ≡ true
+    → Weighed e r → Weights A B r
+weights {A} {B} {f} {e} {r} pa pb k w t h = record {
+  counted = (counted, g4 .few);
+  balance = record {
+    some = some;
+    few = few;
+    fair = g4 .fair;
+    zero-x = g4 .sum-x ∙ back (w0 *ℤ bp .x) (w1′ *ℤ ba .x) (w2′ *ℤ bb .x) (w3 *ℤ bc .x) ∙ zero .bx;
+    zero-y = g4 .sum-y ∙ back (w0 *ℤ bp .y) (w1′ *ℤ ba .y) (w2′ *ℤ bb .y) (w3 *ℤ bc .y) ∙ zero .by;
+    zero-z = g4 .sum-z ∙ back (w0 *ℤ bp .z) (w1′ *ℤ ba .z) (w2′ *ℤ bb .z) (w3 *ℤ bc .z) ∙ zero .bz;
+  };
+  four = g4 .size;
+  rest = g4 .rest;
+}
+  where
+    p : Vec3
+    p = e .last .at
+
+    a : Vec3
+    a = e .portal .a .at
+
+    b : Vec3
+    b = e .portal .b .at
+
+    c : Vec3
+    c = e .portal .c .at
+
+    bp : Vec3
+    bp = baseOf A B (e .last)
+
+    ba : Vec3
+    ba = baseOf A B (e .portal .a)
+
+    bb : Vec3
+    bb = baseOf A B (e .portal .b)
+
+    bc : Vec3
+    bc = baseOf A B (e .portal .c)
+
+    w0 : ℤ
+    w0 = pos 0 -ℤ det a b c
+
+    w1′ : ℤ
+    w1′ = det p b c
+
+    w2′ : ℤ
+    w2′ = det a p c
+
+    w3 : ℤ
+    w3 = det a b p
+
+    gr : Ground A B (f .widths)
+    gr = ground pa pb k
+
+    up : Upto pointReach p
+    up = point-upto gr (w .last)
+
+    hd : Held origin (f .a .at) (f .b .at) (f .c .at) a b c
+    hd = w .begun .held
+
+    met : Met origin p a b c
+    met = w .met t
+
+    n0 : pos 0 <ℤ w0
+    n0 = subst (λ z. pos 0 <ℤ z) (sym (+ℤ-idl (negℤ (det a b c)))) (plain a b c (f .a .at) (f .b .at) (f .c .at) (hd .inv) .hp)
+
+    g1 : Gather A B 1 (pos 0 +ℤ w0 *ℤ bp .x) (pos 0 +ℤ w0 *ℤ bp .y) (pos 0 +ℤ w0 *ℤ bp .z) (h .g1)
+    g1 = gather-more (gather-none A B) (omega arith) (w .last .of-first, w .last .of-second) (lt→≤ℤ n0) (weight-most (minus-within (weight-within (hd .ina) (hd .inb) (hd .inc)))) (h .first)
+
+    g2 : Gather A B 2 (pos 0 +ℤ w0 *ℤ bp .x +ℤ w1′ *ℤ ba .x) (pos 0 +ℤ w0 *ℤ bp .y +ℤ w1′ *ℤ ba .y) (pos 0 +ℤ w0 *ℤ bp .z +ℤ w1′ *ℤ ba .z) (h .g2)
+    g2 = gather-more g1 (omega arith) (w .begun .ofa .of-first, w .begun .ofa .of-second) (plain-nn p b c (met .w1)) (weight-most (weight-within up (hd .inb) (hd .inc))) (h .second)
+
+    g3 : Gather A B 3 (pos 0 +ℤ w0 *ℤ bp .x +ℤ w1′ *ℤ ba .x +ℤ w2′ *ℤ bb .x) (pos 0 +ℤ w0 *ℤ bp .y +ℤ w1′ *ℤ ba .y +ℤ w2′ *ℤ bb .y) (pos 0 +ℤ w0 *ℤ bp .z +ℤ w1′ *ℤ ba .z +ℤ w2′ *ℤ bb .z) (h .g3)
+    g3 = gather-more g2 (omega arith) (w .begun .ofb .of-first, w .begun .ofb .of-second) (plain-nn a p c (met .w2)) (weight-most (weight-within (hd .ina) up (hd .inc))) (h .third)
+
+    g4 : Gather A B 4 (pos 0 +ℤ w0 *ℤ bp .x +ℤ w1′ *ℤ ba .x +ℤ w2′ *ℤ bb .x +ℤ w3 *ℤ bc .x) (pos 0 +ℤ w0 *ℤ bp .y +ℤ w1′ *ℤ ba .y +ℤ w2′ *ℤ bb .y +ℤ w3 *ℤ bc .y) (pos 0 +ℤ w0 *ℤ bp .z +ℤ w1′ *ℤ ba .z +ℤ w2′ *ℤ bb .z +ℤ w3 *ℤ bc .z) r
+    g4 = gather-more g3 (omega arith) (w .begun .ofc .of-first, w .begun .ofc .of-second) (plain-nn a b p (met .w3)) (weight-most (weight-within (hd .ina) (hd .inb) up)) (h .fourth)
+
+    back : (s t u v : ℤ) → pos 0 +ℤ s +ℤ t +ℤ u +ℤ v ≡ s +ℤ t +ℤ u +ℤ v
+    back s t u v = by-ring (s ∷ t ∷ u ∷ v ∷ []) (search sides depth 9) refl
+
+    zero : ZeroSum w0 w1′ w2′ w3 bp ba bb bc
+    zero = f4 (k .dropping .nonzero) (drops (k .dropping) (w .last)) (drops (k .dropping) (w .begun .ofa)) (drops (k .dropping) (w .begun .ofb)) (drops (k .dropping) (w .begun .ofc))
+        (subst (λ z. ZeroSum z w1′ w2′ w3 p a b c) (sym (+ℤ-idl (negℤ (det a b c)))) (cramer a b c p))
+
+    counted : 1 ≤ r .count
+    counted =
+        let c1 : h .g1 .count ≡ 0 + 1 = h .first .counted (λ z. gt-other n0 z) in
+        let c2 = count-grows (h .second) in
+        let c3 = count-grows (h .third) in
+        let c4 = count-grows (h .fourth) in
+        omega arith
+
+    some : 1 ≤ length (take (r .count) (r .pairs))
+    some = let l = length-take (r .count) (r .pairs) in let z = g4 .size in omega (arith, counted)
+
+    few : length (take (r .count) (r .pairs)) ≤ 4
+    few = let l = length-take (r .count) (r .pairs) in let z = g4 .size in omega arith
+
+-- ---- the answers
+abbrev pub meetingWith : ℕ → Vec3 → Gathered → Answer
+meetingWith v d g = record { number = 0; verdict = v; direction = d; count = g .count; pairs = g .pairs }
+
+pub carries-separate : {A B : Piece} {n : Vec3} → Below n A B → Upto directionReach n → Carries A B (record { number = 0; verdict = 1; direction = n; count = 0; pairs = noPairs })
+carries-separate {n} h u = record {
+  right = inl (refl, record { direction = n; parts = h });
+  small = u;
+  parting = λ _. h;
+  supporting = λ e. absurd (omega arith);
+  undirected = λ e. absurd (omega arith);
+  unpaired = λ _. refl;
+  paired = λ f. absurd (f refl);
+  meeting = λ f. absurd (f refl);
+  four = refl;
+  rest = λ k _. none-at k;
+}
+
+pub carries-touching : {A B : Piece} {d : Vec3} {g : Gathered} → Supported d A B → Upto directionReach d → Weights A B g → Carries A B (meetingWith touching d g)
+carries-touching {d} {g} h u w = record {
+  right = inr (inl (refl, record { meeting = record { pairs = take (g .count) (g .pairs); balance = w .balance }; direction = d; supported = h }));
+  small = u;
+  parting = λ e. absurd (omega arith);
+  supporting = λ _. h;
+  undirected = λ e. absurd (omega arith);
+  unpaired = λ e. absurd (omega arith);
+  paired = λ _. w .counted;
+  meeting = λ _. w .balance;
+  four = w .four;
+  rest = w .rest;
+}
+
+pub carries-penetrating : {A B : Piece} {g : Gathered} → ((d : Vec3) → Supported d A B → ⊥) → Weights A B g → Carries A B (meetingWith penetrating origin g)
+carries-penetrating {g} h w = record {
+  right = inr (inr (refl, record { meeting = record { pairs = take (g .count) (g .pairs); balance = w .balance }; free = h }));
+  small = origin-upto directionReach;
+  parting = λ e. absurd (omega arith);
+  supporting = λ e. absurd (omega arith);
+  undirected = λ _. refl;
+  unpaired = λ e. absurd (omega arith);
+  paired = λ _. w .counted;
+  meeting = λ _. w .balance;
+  four = w .four;
+  rest = w .rest;
+}
+
+-- ---- the weak walk's ends, where the difference is nowhere flat
+module _ {A B : Piece} {f : Frame} {q : Vec3} {v : Three} {e : Ended} (pa : Placed A) (pb : Placed B) (k : Framed A B f) (eq : q ≡ sum3 (f .a .at) (f .b .at) (f .c .at)) (ev : v ≡ framePlaces f) (solid : f .solid ≡ true) (w : Walked A B (f .widths) q v e) where
+  weak : Walked A B origin (sum3 (f .a .at) (f .b .at) (f .c .at)) (framePlaces f) e
+  weak =
+      subst (λ g. Walked A B g (sum3 (f .a .at) (f .b .at) (f .c .at)) (framePlaces f) e) (k .thin solid)
+      (subst (λ u. Walked A B (f .widths) u (framePlaces f) e) eq (subst (λ u. Walked A B (f .widths) q u e) ev w))
+
+  with-no-box : {p : Point} → Tagged A B (f .widths) p → Spread A B origin (p .at)
+  with-no-box {p} t = subst (λ g. Spread A B g (p .at)) (k .thin solid) (spread-of t)
+
+  pub touching-by : e .met ≡ false → Supported (e .normal) A B
+  touching-by t =
+      let l = w1 (e .normal) (f .a .at) (f .b .at) (f .c .at) (with-no-box (k .ofa)) (with-no-box (k .ofb)) (with-no-box (k .ofc))
+      (subst (λ n. Under bigK (dot n (sum3 (f .a .at) (f .b .at) (f .c .at)))) (sym (weak .normal-is))
+      (front-under (weak .begun .setting .inq) (weak .begun .held .ina) (weak .begun .held .inb) (weak .begun .held .inc))) (weak .apart t) in
+      record { nonzero = wall-some l; above = not-above-of (e .normal) (l .flat) }
+
+  pub penetrating-by : e .met ≡ true → (d : Vec3) → Supported d A B → ⊥
+  penetrating-by t d s =
+      w2 (f .a .at) (f .b .at) (f .c .at) (with-no-box (k .ofa)) (with-no-box (k .ofb)) (with-no-box (k .ofc)) (k .free) (spread-of (weak .last)) (spread-of (weak .begun .ofa))
+      (spread-of (weak .begun .ofb)) (spread-of (weak .begun .ofc)) (weak .met t) d
+      (record { flat = walled-by d (s .above); some = s .nonzero })
+
+-- ---- what the functions between are asked with
+pub record MeetingAt (A B : Piece) (f : Frame) (e : Ended) : Type 0 where
+  pub framed : Framed A B f
+  pub walked : Walked A B (f .widths) origin (framePlaces f) e
+  pub met : e .met ≡ true
+
+pub near-at : {A B : Piece} {f : Frame} {e : Ended} → Placed A → Placed B → MeetingAt A B f e → Near e
+near-at pa pb m =
+    record {
+      portal = record { ina = m .walked .begun .held .ina; inb = m .walked .begun .held .inb; inc = m .walked .begun .held .inc };
+      last = point-upto (ground pa pb (m .framed))
+          (m .walked .last);
+    }
+
+-- a test of both lists: true says that all is well with both, false that the refusal applies
+pub record Tells (b : Bool) (Well Applies : Type 0) : Type 0 where
+  pub yes : b ≡ true → Well
+  pub no : b ≡ false → Applies
+
+pub tells-no : {b : Bool} {P C : Type 0} → b ≡ false → C → Tells b P C
+tells-no e h = record { yes = λ t. absurd (subst T (sym t ∙ e) tt); no = λ _. h }
+
+-- of two tests, the second's answer where the first is passed
+pub tells-both : {b : Bool} {P Q : Type 0} → P → Decides b Q → Tells b (P × Q) ((P → ⊥) ⊎ (Q → ⊥))
+tells-both p d = record { yes = λ t. (p, d .yes t); no = λ f. inr (d .no f) }
+
+abbrev pub BothFit : Piece → Piece → Type 0
+BothFit A B = LengthFits (length A) × LengthFits (length B)
+
+abbrev pub BothNear : Piece → Piece → Type 0
+BothNear A B = InReach placedReach A × InReach placedReach B
+
+pub both-placed : {A B : Piece} → BothFit A B → BothNear A B → Placed A × Placed B
+both-placed f n = (record { fits = f .0; near = n .0 }, record { fits = f .1; near = n .1 })
+
+-- ---- the whole answer
+not-either : {P Q : Type 0} → P × Q → (P → ⊥) ⊎ (Q → ⊥) → ⊥
+not-either h (inl f) = f (h .0)
+not-either h (inr f) = f (h .1)
+
+pub answered-long : {A B : Piece} {r : Answer} → BadLength A B → r ≡ nothing listLength → Answers A B r
+answered-long f e = record { refusal = inl (f, ap (λ r. r .number) e); zeros = λ _. e ∙ ap nothing (sym (ap (λ r. r .number) e)); carries = λ z. absurd (let k = ap (λ r. r .number) e in omega arith) }
+
+pub answered-far : {A B : Piece} {r : Answer} → BothFit A B → OutOfReach A B → r ≡ nothing placedRange → Answers A B r
+answered-far f n e =
+    record {
+      refusal = inr (not-either f, inl (n, ap (λ r. r .number) e));
+      zeros = λ _. e ∙ ap nothing (sym (ap (λ r. r .number) e));
+      carries = λ z. absurd
+          (let k = ap (λ r. r .number) e in omega arith);
+    }
+
+pub answered : {A B : Piece} {r : Answer} → BothFit A B → BothNear A B → (r .number ≡ 0) × Carries A B r → Answers A B r
+answered f n c = record { refusal = inr (not-either f, inr (not-either n, c .0)); zeros = λ g. absurd (g (c .0)); carries = λ _. c .1 }
+
+pub answer-eq : {n v k : ℕ} {d d′ : Vec3} {ps ps′ : List Pair} → d ≡ d′ → ps ≡ ps′
+    → _≡_ {A = Answer} (record { number = n; verdict = v; direction = d; count = k; pairs = ps }) (record { number = n; verdict = v; direction = d′; count = k; pairs = ps′ })
+answer-eq {n} {v} {k} e f = λ i. record { number = n; verdict = v; direction = e i; count = k; pairs = f i }
+
+-- the same verdict with an equal direction and equal pairs
+pub carries-is : {A B : Piece} {q r : Answer} → q ≡ r → (r .number ≡ 0) × Carries A B r → (q .number ≡ 0) × Carries A B q
+carries-is {A} {B} e h = subst (λ r. (r .number ≡ 0) × Carries A B r) (sym e) h

@@ -1,0 +1,142 @@
+// The verdict of two corner lists, exact and with witnesses: two walks at most, and what their ends say.
+// No tolerance and no limit on the turns: a measure falls with each of them (crate `verdict_walk`, specs/Ends.antt).
+ghost use mathlib.Core.Path.{_≡_};
+ghost use Rattle.space.specs.Vectors.{origin};
+ghost use Rattle.space.specs.Lists.{Placed};
+ghost use Rattle.verdict.specs.Answers.{nothing, BadLength, OutOfReach, Carries, Answers};
+ghost use Rattle.verdict.specs.Judged.{meetingWith, MeetingAt, Tells, BothFit, BothNear};
+use space::Pair;
+use space::Vec3;
+use space::in_reach;
+use space::length_fits;
+use verdict_frame::Frame;
+use verdict_frame::frame_of;
+use verdict_frame::frame_places;
+use verdict_frame::shift_of;
+use verdict_frame::start_of;
+use verdict_walk::Ended;
+use verdict_walk::Gathered;
+use verdict_walk::gathered_of;
+use verdict_walk::no_pairs;
+use verdict_walk::walk;
+
+// The answer to the pair question: a refusal's number and nothing else, or 0 and the verdict with what it carries.
+pub struct Answer {
+    pub number: u8,
+    pub verdict: u8,
+    pub direction: Vec3,
+    pub count: usize,
+    pub pairs: [Pair; 4],
+}
+
+// A refusal: its number, and every other value zero.
+pub fn refused(number: u8) -> Answer
+    ensures { λ r. ⌜ r ≡ nothing number ⌝ }
+{
+    Answer {
+        number: number,
+        verdict: 0,
+        direction: no_direction(),
+        count: 0,
+        pairs: no_pairs(),
+    }
+}
+
+fn no_direction() -> Vec3
+    ensures { λ r. ⌜ r ≡ origin ⌝ }
+{
+    Vec3 { x: 0, y: 0, z: 0 }
+}
+
+// The answer of two pieces that meet, with the pairs that were gathered.
+fn meeting_with(verdict: u8, direction: Vec3, k: Gathered) -> Answer
+    ensures { λ r. ⌜ r ≡ meetingWith verdict direction k ⌝ }
+{
+    let count = k.count;
+    let pairs = k.pairs;
+    Answer {
+        number: limits::DONE,
+        verdict: verdict,
+        direction: direction,
+        count: count,
+        pairs: pairs,
+    }
+}
+
+// The verdict of two pieces that meet at e, whose difference has the frame f.
+fn meeting_verdict(f: Frame, e: Ended, first: &[i32], second: &[i32]) -> Answer
+    requires { ⌜ Placed (now first) × Placed (now second) ⌝ }
+    requires { ⌜ MeetingAt (now first) (now second) f e ⌝ }
+    ensures { λ r. ⌜ (r .number ≡ 0) × Carries (now (first .entry)) (now (second .entry)) r ⌝ }
+{
+    let k = gathered_of(e);
+    let solid = f.solid;
+    if solid {
+        let v = frame_places(f);
+        let t = e.portal;
+        let g = f.widths;
+        let w = walk(shift_of(v), v, t, g, first, second);
+        let inside = w.met;
+        if inside {
+            return meeting_with(3, no_direction(), k);
+        }
+        let n = w.normal;
+        return meeting_with(2, n, k);
+    }
+    let d = f.flat;
+    meeting_with(2, d, k)
+}
+
+// The verdict of two lists of placed corners, with its witnesses.
+pub fn verdict(first: &[i32], second: &[i32]) -> Answer
+    requires { ⌜ Placed (now first) × Placed (now second) ⌝ }
+    ensures { λ r. ⌜ (r .number ≡ 0) × Carries (now (first .entry)) (now (second .entry)) r ⌝ }
+{
+    let f = frame_of(first, second);
+    let v = frame_places(f);
+    let g = f.widths;
+    let e = walk(no_direction(), v, start_of(f), g, first, second);
+    let met = e.met;
+    if met {
+        return meeting_verdict(f, e, first, second);
+    }
+    let n = e.normal;
+    Answer {
+        number: limits::DONE,
+        verdict: 1,
+        direction: n,
+        count: 0,
+        pairs: no_pairs(),
+    }
+}
+
+fn lengths_fit(first: &[i32], second: &[i32]) -> bool
+    ensures { λ r. ⌜ Tells r (BothFit (now (first .entry)) (now (second .entry))) (BadLength (now (first .entry)) (now (second .entry))) ⌝ }
+{
+    if length_fits(first.len()) {
+        return length_fits(second.len());
+    }
+    false
+}
+
+fn both_near(first: &[i32], second: &[i32]) -> bool
+    ensures { λ r. ⌜ Tells r (BothNear (now (first .entry)) (now (second .entry))) (OutOfReach (now (first .entry)) (now (second .entry))) ⌝ }
+{
+    if in_reach(first, limits::PLACED_REACH) {
+        return in_reach(second, limits::PLACED_REACH);
+    }
+    false
+}
+
+// The pair question on two lent lists of placed corners: for every two lists.
+pub fn pair_of_lists(first: &[i32], second: &[i32]) -> Answer
+    ensures { λ r. ⌜ Answers (now (first .entry)) (now (second .entry)) r ⌝ }
+{
+    if lengths_fit(first, second) {
+        if both_near(first, second) {
+            return verdict(first, second);
+        }
+        return refused(limits::PLACED_RANGE);
+    }
+    refused(limits::LIST_LENGTH)
+}

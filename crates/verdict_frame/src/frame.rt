@@ -1,0 +1,381 @@
+// A frame of the difference: three of its points that do not lie in a plane with the origin, or, where it is flat, such points of it made thick.
+// One scan, asked for what is not level with three rows, finds each of them.
+ghost use mathlib.Core.Path.{_≡_};
+ghost use Prim.Native.Nat.{_<_};
+ghost use lib.IntN.{pos};
+ghost use lib.Signed.{ltZ};
+ghost use Rattle.space.specs.Vectors.{det};
+ghost use Rattle.space.specs.Ranges.{Upto, pointReach, normalReach};
+ghost use Rattle.space.specs.Verdicts.{cornerCount};
+ghost use Rattle.space.specs.Lists.{Placed};
+ghost use Rattle.verdict_walk.specs.Ends.{Corners};
+ghost use Rattle.limits.specs.Decides.{Decides};
+ghost use Rattle.verdict_portal.specs.Flat.{unit, nextAxis};
+ghost use Rattle.verdict_frame.specs.Frames.{differenceAt, Rows, Level, leftAt, rightAt, Sought, AxisOf, thickOf, pointFrame, OnLine, InPlane, unitRows, lineRows, planeRows, Some, Wide, Framed, framePlaces, Started};
+ghost use Rattle.verdict_portal.specs.Exits.{sum3};
+use space::Vec3;
+use space::cross;
+use space::det;
+use space::dot;
+use space::minus;
+use space::opposite;
+use space::plus;
+use verdict_portal::Three;
+use verdict_walk::Point;
+use verdict_walk::Portal;
+use verdict_walk::corner;
+
+// What a scan of the differences found: the first that is not level with three rows.
+pub struct Found {
+    pub found: bool,
+    pub point: Point,
+}
+
+// Three independent points of the difference; where it is flat, a box that makes it thick, and a direction that it is level with.
+pub struct Frame {
+    pub solid: bool,
+    pub widths: Vec3,
+    pub a: Point,
+    pub b: Point,
+    pub c: Point,
+    pub flat: Vec3,
+}
+
+// Corner i of the first list less corner j of the second.
+fn difference(first: &[i32], second: &[i32], i: usize, j: usize) -> Point
+    requires { ⌜ Placed (now first) × Placed (now second) ⌝ }
+    requires { ⌜ (i < cornerCount (now first)) × (j < cornerCount (now second)) ⌝ }
+    ensures { λ r. ⌜ r ≡ differenceAt (now (first .entry)) (now (second .entry)) i j ⌝ }
+{
+    let a = corner(first, i);
+    let b = corner(second, j);
+    let at = minus(a, b);
+    Point {
+        at: at,
+        first: i,
+        second: j,
+    }
+}
+
+// Whether p is level with three rows.
+fn level(rows: Three, p: Vec3) -> bool
+    requires { ⌜ Rows rows × Upto pointReach p ⌝ }
+    ensures { λ r. ⌜ Decides r (Level rows p) ⌝ }
+{
+    let a = rows.a;
+    let b = rows.b;
+    let c = rows.c;
+    if dot(a, p) != 0 {
+        return false;
+    }
+    if dot(b, p) != 0 {
+        return false;
+    }
+    dot(c, p) == 0
+}
+
+// The two corners of turn k of the scan: every corner of the first list with the other's first, then the first with every one of the other.
+fn left_at(k: usize, m: usize) -> usize
+    ensures { λ r. ⌜ r ≡ leftAt k m ⌝ }
+{
+    if k < m {
+        return k;
+    }
+    0
+}
+
+fn right_at(k: usize, m: usize) -> usize
+    ensures { λ r. ⌜ r ≡ rightAt k m ⌝ }
+{
+    if k < m {
+        return 0;
+    }
+    k - m
+}
+
+// The first difference of the scan that is not level with three rows; where there is none, no difference of the two lists is.
+fn seek(rows: Three, first: &[i32], second: &[i32]) -> Found
+    requires { ⌜ Rows rows ⌝ }
+    requires { ⌜ Placed (now first) × Placed (now second) ⌝ }
+    ensures { λ r. ⌜ Sought rows (now (first .entry)) (now (second .entry)) r ⌝ }
+{
+    let m = first.len() / 3;
+    let n = second.len() / 3;
+    let mut k = 0;
+    while k < m + n {
+        let p = difference(first, second, left_at(k, m), right_at(k, m));
+        let y = p.at;
+        if !level(rows, y) {
+            return Found {
+                found: true,
+                point: p,
+            };
+        }
+        k += 1;
+    }
+    let p = difference(first, second, 0, 0);
+    Found {
+        found: false,
+        point: p,
+    }
+}
+
+// An axis along which v is not 0, where there is one.
+fn axis_of(v: Vec3) -> usize
+    requires { ⌜ Upto normalReach v ⌝ }
+    ensures { λ r. ⌜ AxisOf v r ⌝ }
+{
+    let x = v.x;
+    let y = v.y;
+    if x != 0 {
+        return 0;
+    }
+    if y != 0 {
+        return 1;
+    }
+    2
+}
+
+fn next_axis(j: usize) -> usize
+    ensures { λ r. ⌜ r ≡ nextAxis j ⌝ }
+{
+    if j == 0 {
+        return 1;
+    }
+    if j == 1 {
+        return 2;
+    }
+    0
+}
+
+fn unit(j: usize) -> Vec3
+    ensures { λ r. ⌜ (r ≡ unit j) × Upto 1 r ⌝ }
+{
+    if j == 0 {
+        return Vec3 { x: 1, y: 0, z: 0 };
+    }
+    if j == 1 {
+        return Vec3 { x: 0, y: 1, z: 0 };
+    }
+    Vec3 { x: 0, y: 0, z: 1 }
+}
+
+// p moved by w: still of the same two corners.
+fn thick(p: Point, w: Vec3) -> Point
+    requires { ⌜ Upto pointReach (p .at) × Upto pointReach w ⌝ }
+    ensures { λ r. ⌜ r ≡ thickOf p w ⌝ }
+{
+    let y = p.at;
+    let i = p.first;
+    let j = p.second;
+    let at = plus(y, w);
+    Point {
+        at: at,
+        first: i,
+        second: j,
+    }
+}
+
+// All differences are 0: a box along every axis.
+fn at_a_point() -> Frame
+    ensures { λ r. ⌜ r ≡ pointFrame ⌝ }
+{
+    let u = Vec3 { x: 1, y: 1, z: 1 };
+    let v = Vec3 { x: -1, y: 1, z: 1 };
+    let w = Vec3 { x: 1, y: -1, z: 1 };
+    let a = Point {
+        at: u,
+        first: 0,
+        second: 0,
+    };
+    let b = Point {
+        at: v,
+        first: 0,
+        second: 0,
+    };
+    let c = Point {
+        at: w,
+        first: 0,
+        second: 0,
+    };
+    let flat = Vec3 { x: 1, y: 0, z: 0 };
+    Frame {
+        solid: false,
+        widths: u,
+        a: a,
+        b: b,
+        c: c,
+        flat: flat,
+    }
+}
+
+// All differences are along a: a box along the two axes besides one of a's.
+fn on_a_line(a: Point) -> Frame
+    requires { ⌜ Upto 262144 (a .at) ⌝ }
+    ensures { λ r. ⌜ OnLine a r ⌝ }
+{
+    let y = a.at;
+    let j = next_axis(axis_of(y));
+    let e = unit(j);
+    let f = unit(next_axis(j));
+    let g = plus(e, f);
+    Frame {
+        solid: false,
+        widths: g,
+        a: thick(a, g),
+        b: thick(a, minus(f, e)),
+        c: thick(a, minus(e, f)),
+        flat: cross(y, e),
+    }
+}
+
+// All differences are in the plane of n, which is a × b: a box along an axis that leaves it.
+fn in_a_plane(a: Point, b: Point, n: Vec3) -> Frame
+    requires { ⌜ Upto 262144 (a .at) × Upto 262144 (b .at) × Upto normalReach n ⌝ }
+    ensures { λ r. ⌜ InPlane a b n r ⌝ }
+{
+    let e = unit(axis_of(n));
+    Frame {
+        solid: false,
+        widths: e,
+        a: thick(a, e),
+        b: thick(b, e),
+        c: thick(a, opposite(e)),
+        flat: n,
+    }
+}
+
+// Rows that only the origin is level with.
+fn unit_rows() -> Three
+    ensures { λ r. ⌜ (r ≡ unitRows) × Rows r ⌝ }
+{
+    let a = Vec3 { x: 1, y: 0, z: 0 };
+    let b = Vec3 { x: 0, y: 1, z: 0 };
+    let c = Vec3 { x: 0, y: 0, z: 1 };
+    Three { a: a, b: b, c: c }
+}
+
+// Rows that only what is along c is level with.
+fn line_rows(v: Vec3) -> Three
+    requires { ⌜ Upto 262144 v ⌝ }
+    ensures { λ r. ⌜ (r ≡ lineRows v) × Rows r ⌝ }
+{
+    let x = v.x;
+    let y = v.y;
+    let z = v.z;
+    let a = Vec3 { x: 0, y: z, z: -y };
+    let b = Vec3 { x: -z, y: 0, z: x };
+    let c = Vec3 { x: y, y: -x, z: 0 };
+    Three { a: a, b: b, c: c }
+}
+
+// Rows that only what is in the plane of n is level with.
+fn plane_rows(n: Vec3) -> Three
+    requires { ⌜ Upto normalReach n ⌝ }
+    ensures { λ r. ⌜ (r ≡ planeRows n) × Rows r ⌝ }
+{
+    Three { a: n, b: n, c: n }
+}
+
+// The frame, once two differences are known that are not along one line.
+fn frame_in_space(a: Point, b: Point, first: &[i32], second: &[i32]) -> Frame
+    requires { ⌜ Placed (now first) × Placed (now second) ⌝ }
+    requires { ⌜ Wide (now first) (now second) a b ⌝ }
+    ensures { λ r. ⌜ Framed (now (first .entry)) (now (second .entry)) r ⌝ }
+{
+    let u = a.at;
+    let v = b.at;
+    let n = cross(u, v);
+    let s = seek(plane_rows(n), first, second);
+    let found = s.found;
+    if found {
+        let c = s.point;
+        return Frame {
+            solid: true,
+            widths: Vec3 { x: 0, y: 0, z: 0 },
+            a: a,
+            b: b,
+            c: c,
+            flat: Vec3 { x: 0, y: 0, z: 0 },
+        };
+    }
+    in_a_plane(a, b, n)
+}
+
+// The frame, once one difference is known that is not the origin.
+fn frame_off_the_point(a: Point, first: &[i32], second: &[i32]) -> Frame
+    requires { ⌜ Placed (now first) × Placed (now second) ⌝ }
+    requires { ⌜ Some (now first) (now second) a ⌝ }
+    ensures { λ r. ⌜ Framed (now (first .entry)) (now (second .entry)) r ⌝ }
+{
+    let v = a.at;
+    let s = seek(line_rows(v), first, second);
+    let found = s.found;
+    if found {
+        let b = s.point;
+        return frame_in_space(a, b, first, second);
+    }
+    on_a_line(a)
+}
+
+// Three independent points of the difference of two lists, thick where it is flat.
+pub fn frame_of(first: &[i32], second: &[i32]) -> Frame
+    requires { ⌜ Placed (now first) × Placed (now second) ⌝ }
+    ensures { λ r. ⌜ Framed (now (first .entry)) (now (second .entry)) r ⌝ }
+{
+    let s = seek(unit_rows(), first, second);
+    let found = s.found;
+    if found {
+        let a = s.point;
+        return frame_off_the_point(a, first, second);
+    }
+    at_a_point()
+}
+
+pub fn frame_places(f: Frame) -> Three
+    ensures { λ r. ⌜ r ≡ framePlaces f ⌝ }
+{
+    let a = f.a;
+    let b = f.b;
+    let c = f.c;
+    let x = a.at;
+    let y = b.at;
+    let z = c.at;
+    Three { a: x, b: y, c: z }
+}
+
+// Whether a portal has the origin on its inner side.
+fn right_way(v: Three) -> bool
+    requires { ⌜ Corners v ⌝ }
+    ensures { λ r. ⌜ r ≡ ltZ (det (v .a) (v .b) (v .c)) (pos 0) ⌝ }
+{
+    let a = v.a;
+    let b = v.b;
+    let c = v.c;
+    det(a, b, c) < 0
+}
+
+// The portal that a frame's three points make, the right way round.
+pub fn start_of(f: Frame) -> Portal
+    requires { ⌜ Corners (framePlaces f) ⌝ }
+    ensures { λ r. ⌜ Started f r ⌝ }
+{
+    let a = f.a;
+    let b = f.b;
+    let c = f.c;
+    if right_way(frame_places(f)) {
+        return Portal { a: a, b: b, c: c };
+    }
+    Portal { a: a, b: c, c: b }
+}
+
+// The shift of the weak walk: the sum of a frame's three points.
+pub fn shift_of(v: Three) -> Vec3
+    requires { ⌜ Corners v ⌝ }
+    ensures { λ r. ⌜ r ≡ sum3 (v .a) (v .b) (v .c) ⌝ }
+{
+    let a = v.a;
+    let b = v.b;
+    let c = v.c;
+    plus(plus(a, b), c)
+}

@@ -1,0 +1,27 @@
+-- `verdict_walk::push`: a weight of 0 is left out; another is stored at the count.
+use mathlib.Core.Path.{ap}
+use mir.Syntax.{w64}
+use mir.Val.{ofZ}
+use Rattle.ints.specs.Bounds.{worth, k-back, k-within, within-le}
+use Rattle.verdict_walk.specs.GatherLaws.{push-none, push-some, zero-bits}
+use borrow.Author.Needs.{needs}
+use Rattle.verdict_walk.proofs.gather.push.Statement.{statement}
+use Rattle.verdict_walk.proofs.gather.push.Tie as tie
+
+returns : tie.Need-returns
+returns c = push-none (zero-bits (within-le tt (c .before .pre .1)) (c .if1 .taken))
+
+mul-pairs : tie.Need-mul-pairs
+mul-pairs c = search needs
+
+array-set-from-pairs : tie.Need-array-set-from-pairs
+array-set-from-pairs c = search needs
+
+add-t10 : tie.Need-add-t10
+add-t10 c = search needs
+
+returns-2 : tie.Need-returns-2
+returns-2 c = push-some (λ e. c .before .if1 .left (ap (ofZ w64) e)) (worth (k-back w64 _ (k-within (c .before .before .pre .1))) tt)
+
+pub push-spec : {M : Type 1} → statement M
+push-spec = tie.close (tie.spec returns mul-pairs array-set-from-pairs add-t10 returns-2)

@@ -1,0 +1,56 @@
+-- How the pairs of a meeting are gathered: one point after the other, those of no weight left out.
+-- What was gathered is a list of fair pairs whose weighted differences have a known sum.
+use mathlib.Core.Path.{_≡_}
+use mathlib.Core.List.{List, List·Memᴰ}
+use Prim.Native.Nat.{ℕ, _+_, _≤_}
+use lib.ListN.{length, set, take, getD}
+use lib.IntN.{ℤ, pos, _-ℤ_}
+use Rattle.space.specs.declared.Vec3.{Vec3}
+use Rattle.space.specs.declared.Pair.{Pair}
+use Rattle.space.specs.Vectors.{minus, det}
+use Rattle.space.specs.Verdicts.{Piece, cornerAt, weighted, Fair}
+use Rattle.verdict_walk.specs.declared.support.Point.{Point}
+use Rattle.verdict_walk.specs.declared.path.Ended.{Ended}
+use Rattle.verdict_walk.specs.declared.gather.Gathered.{Gathered}
+use Rattle.verdict_walk.specs.NoPairs.{noPair, noPairs}
+
+abbrev pub pairOf : Point → ℤ → Pair
+pairOf p w = record { first = p .first; second = p .second; weight = w }
+
+-- the difference of a point's two corners, with no box
+abbrev pub baseOf : Piece → Piece → Point → Vec3
+baseOf A B p = minus (cornerAt A (p .first)) (cornerAt B (p .second))
+
+abbrev pub nothingYet : Gathered
+nothingYet = record { count = 0; pairs = noPairs }
+
+-- one point more, unless it weighs nothing
+pub record Pushed (g : Gathered) (p : Point) (w : ℤ) (r : Gathered) : Type 0 where
+  pub none : w ≡ pos 0 → r ≡ g
+  pub counted : (w ≡ pos 0 → ⊥) → r .count ≡ g .count + 1
+  pub stored : (w ≡ pos 0 → ⊥) → r .pairs ≡ set (g .pairs) (g .count) (pairOf p w)
+
+-- what has been gathered of n points, with the sums of its weighted differences
+pub record Gather (A B : Piece) (n : ℕ) (x y z : ℤ) (g : Gathered) : Type 0 where
+  pub size : length (g .pairs) ≡ 4
+  pub few : g .count ≤ n
+  pub fair : (p : Pair) → List·Memᴰ p (take (g .count) (g .pairs)) → Fair A B p
+  pub sum-x : weighted (λ v. v .x) A B (take (g .count) (g .pairs)) ≡ x
+  pub sum-y : weighted (λ v. v .y) A B (take (g .count) (g .pairs)) ≡ y
+  pub sum-z : weighted (λ v. v .z) A B (take (g .count) (g .pairs)) ≡ z
+  pub rest : (k : ℕ) → g .count ≤ k → getD (g .pairs) k noPair ≡ noPair
+
+-- there is room for the next of four
+pub record Room (n : ℕ) (g : Gathered) : Type 0 where
+  pub few : g .count ≤ n
+  pub size : length (g .pairs) ≡ 4
+
+-- ---- the weights of a meeting
+pub record Weighed (e : Ended) (r : Gathered) : Type 0 where
+  pub g1 : Gathered
+  pub g2 : Gathered
+  pub g3 : Gathered
+  pub first : Pushed nothingYet (e .last) (pos 0 -ℤ det (e .portal .a .at) (e .portal .b .at) (e .portal .c .at)) g1
+  pub second : Pushed g1 (e .portal .a) (det (e .last .at) (e .portal .b .at) (e .portal .c .at)) g2
+  pub third : Pushed g2 (e .portal .b) (det (e .portal .a .at) (e .last .at) (e .portal .c .at)) g3
+  pub fourth : Pushed g3 (e .portal .c) (det (e .portal .a .at) (e .portal .b .at) (e .last .at)) r
