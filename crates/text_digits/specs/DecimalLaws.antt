@@ -9,7 +9,7 @@ use native.Mathlib.Nat.{pow-suc, pow-succ', pow-le-pow-right, mul-le-mul-right, 
 use native.Mathlib.Omega.{arith}
 use lib.ListN.{length, drop, length-append, drop-of-length-le}
 use lib.Seq.{drop-append-seam}
-use Rattle.text_digits.specs.Decimal.{Digit, Digits, number, Follows, Decimal}
+use Rattle.text_digits.specs.Decimal.{Digit, Digits, number, Follows, Decimal, valueIn}
 
 -- ---- what can be decided
 unfoldable pub both : {A B : Type 0} → Dec A → Dec B → Dec (A × B)
@@ -122,6 +122,15 @@ number-below (d ∷ ds) h =
 
 pub number-few : (most : ℕ) (ds : List ℕ) → Digits ds → length ds ≤ most → number ds < 10 ^ most
 number-few most ds h few = omega (arith, number-below ds h, pow-le-pow-right {n = 10} (omega arith) few)
+
+-- ---- what the separator is worth: 1,5 is a hundred and fifty hundredths, 1,05 a hundred and five
+pub one-and-five : valueIn 2 (49 ∷ []) (53 ∷ []) ≡ 150
+unfolding number
+one-and-five = refl
+
+pub one-and-nought-five : valueIn 2 (49 ∷ []) (48 ∷ 53 ∷ []) ≡ 105
+unfolding number
+one-and-nought-five = refl
 
 -- ---- a number read digit by digit: v so far, then the digits
 unfoldable pub numberAfter : ℕ → List ℕ → ℕ
