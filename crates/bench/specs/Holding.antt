@@ -14,7 +14,7 @@ use lib.Signed.{_<ℤ_, ltZ, leZ, ltZ-yes, leZ-yes, clashℤ}
 use Rattle.space.specs.Verdicts.{VerdictIs}
 use Rattle.turns.specs.Turns.{turnOf, signedAxis, turnedAt, placedAt}
 use Rattle.turns.specs.Table.{and-left, and-right, below, number}
-use Rattle.pieces.specs.Pieces.{Store, countAt, shapeAt, shapeNumber, offsetAt, placedCorner, pieceAt, lowAt, highAt}
+use Rattle.pieces.specs.Pieces.{Store, countAt, shapeAt, shapeValue, offsetAt, placedCorner, pieceAt, lowAt, highAt}
 use Rattle.pieces.specs.Store.{list-length, list-at}
 use Rattle.pieces.specs.Boxes.{Apart}
 use Rattle.rows_right.specs.Right.{RowRight}
@@ -54,9 +54,9 @@ module _ {d : Store} {p : ℕ} {shape : List ℤ} {x y z : ℕ} (h : Holds d p s
 
   -- turn 0 leaves a corner as it is
   unturned : (i axis : ℕ) → axis < 3 → (o : ℤ)
-      → placedAt 0 axis (shapeNumber d (shapeAt d p) (3 * i)) (shapeNumber d (shapeAt d p) (3 * i + 1)) (shapeNumber d (shapeAt d p) (3 * i + 2)) o ≡ shapeNumber d (shapeAt d p) (3 * i + axis) +ℤ o
+      → placedAt 0 axis (shapeValue d (shapeAt d p) (3 * i)) (shapeValue d (shapeAt d p) (3 * i + 1)) (shapeValue d (shapeAt d p) (3 * i + 2)) o ≡ shapeValue d (shapeAt d p) (3 * i + axis) +ℤ o
   unfolding placedAt turnedAt signedAxis turnOf
-  unturned i zero l o = let e : 3 * i ≡ 3 * i + 0 = omega arith in ap (λ k. shapeNumber d (shapeAt d p) k +ℤ o) e
+  unturned i zero l o = let e : 3 * i ≡ 3 * i + 0 = omega arith in ap (λ k. shapeValue d (shapeAt d p) k +ℤ o) e
   unturned i (suc zero) l o = refl
   unturned i (suc (suc zero)) l o = refl
   unturned i (suc (suc (suc axis))) l o = absurd (omega arith)
@@ -67,7 +67,7 @@ module _ {d : Store} {p : ℕ} {shape : List ℤ} {x y z : ℕ} (h : Holds d p s
       let n = h .count in
       let m = placed-length (countAt d p) shape x y z n in
       let e : (3 * i + axis) % 3 ≡ axis = omega arith in
-      ap (λ t. placedAt t axis (shapeNumber d (shapeAt d p) (3 * i)) (shapeNumber d (shapeAt d p) (3 * i + 1)) (shapeNumber d (shapeAt d p) (3 * i + 2)) (offsetAt d p axis)) (h .turn)
+      ap (λ t. placedAt t axis (shapeValue d (shapeAt d p) (3 * i)) (shapeValue d (shapeAt d p) (3 * i + 1)) (shapeValue d (shapeAt d p) (3 * i + 2)) (offsetAt d p axis)) (h .turn)
       ∙ unturned i axis ha (offsetAt d p axis)
       ∙ ap₂ _+ℤ_ (h .corners (3 * i + axis) (omega arith)) (offset-is axis ha ∙ ap (along x y z) (sym e))
       ∙ sym (placed-at shape x y z (3 * i + axis) (omega arith))

@@ -6,7 +6,7 @@ use Prim.Native.Nat.{ℕ, _+_, _*_, _<_}
 use lib.IntN.{ℤ, pos, negsuc, _+ℤ_}
 use lib.ListN.{length, getD}
 use Rattle.space.specs.Verdicts.{Below, VerdictIs, separate, touching, penetrating}
-use Rattle.typed.specs.TypedLength.{Answers}
+use Rattle.typed.specs.TypedLength.{LengthAnswers}
 use Rattle.typed.specs.declared.Typed.the-variants.{Steps, Refused}
 use Rattle.verdict.specs.Answers as pair
 use Rattle.verdict.specs.declared.Answer.{Answer}
@@ -16,7 +16,7 @@ use Rattle.rows.specs.Rows.{PairOf, rowAt, RowsInOrder}
 use Rattle.rows_list.specs.Contacts.{contacts}
 use Rattle.pieces.specs.declared.placement.Placement.{Placement}
 use Rattle.pieces.specs.declared.placement.Offset.{Offset}
-use Rattle.pieces.specs.Pieces.{Store, Sized, Taken, countAt, shapeAt, shapeNumber, turnAt, offsetAt, axesOf}
+use Rattle.pieces.specs.Pieces.{Store, Sized, Taken, countAt, shapeAt, shapeValue, turnAt, offsetAt, axesOf}
 use Rattle.pieces.specs.Boxes.{Apart}
 use Rattle.desk_state.specs.Desk.{putAt}
 use Rattle.rows_right.specs.Right.{RowRight}
@@ -51,7 +51,7 @@ placed (a ∷ b ∷ c ∷ corners) x y z = corner (a +ℤ pos x) (b +ℤ pos y) 
 pub record Holds (d : Store) (p : ℕ) (shape : List ℤ) (x y z : ℕ) : Type 0 where
   pub taken : Taken (d .places) p
   pub count : 3 * countAt d p ≡ length shape
-  pub corners : (k : ℕ) → k < length shape → shapeNumber d (shapeAt d p) k ≡ getD shape k (pos 0)
+  pub corners : (k : ℕ) → k < length shape → shapeValue d (shapeAt d p) k ≡ getD shape k (pos 0)
   pub turn : turnAt d p ≡ 0
   pub offset-x : offsetAt d p 0 ≡ pos x
   pub offset-y : offsetAt d p 1 ≡ pos y
@@ -126,11 +126,11 @@ pub record Starred : Type 0 where
   -- there is such a desk, and there are right rows before and after the move
   pub there-is : (d : Store) × Sized d × HoldsThree d 0 64 32 × ((rows : List ℕ) × RightRows d rows) × ((rows : List ℕ) × RightRows (moved d) rows)
   -- "Typed 1,5 and 1.5: 96." "0,1: 7." "1.500, "1,", ",5", empty, 00001: refusal 14."
-  pub typed-comma : Answers (digit 1 ∷ comma ∷ digit 5 ∷ []) (Steps 96)
-  pub typed-point : Answers (digit 1 ∷ point ∷ digit 5 ∷ []) (Steps 96)
-  pub typed-rounded-up : Answers (digit 0 ∷ comma ∷ digit 1 ∷ []) (Steps 7)
-  pub typed-grouped : Answers (digit 1 ∷ point ∷ digit 5 ∷ digit 0 ∷ digit 0 ∷ []) (Refused 14)
-  pub typed-no-part : Answers (digit 1 ∷ comma ∷ []) (Refused 14)
-  pub typed-no-whole : Answers (comma ∷ digit 5 ∷ []) (Refused 14)
-  pub typed-empty : Answers [] (Refused 14)
-  pub typed-five : Answers (digit 0 ∷ digit 0 ∷ digit 0 ∷ digit 0 ∷ digit 1 ∷ []) (Refused 14)
+  pub typed-comma : LengthAnswers (digit 1 ∷ comma ∷ digit 5 ∷ []) (Steps 96)
+  pub typed-point : LengthAnswers (digit 1 ∷ point ∷ digit 5 ∷ []) (Steps 96)
+  pub typed-rounded-up : LengthAnswers (digit 0 ∷ comma ∷ digit 1 ∷ []) (Steps 7)
+  pub typed-grouped : LengthAnswers (digit 1 ∷ point ∷ digit 5 ∷ digit 0 ∷ digit 0 ∷ []) (Refused 14)
+  pub typed-no-part : LengthAnswers (digit 1 ∷ comma ∷ []) (Refused 14)
+  pub typed-no-whole : LengthAnswers (comma ∷ digit 5 ∷ []) (Refused 14)
+  pub typed-empty : LengthAnswers [] (Refused 14)
+  pub typed-five : LengthAnswers (digit 0 ∷ digit 0 ∷ digit 0 ∷ digit 0 ∷ digit 1 ∷ []) (Refused 14)

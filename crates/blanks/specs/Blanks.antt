@@ -9,7 +9,7 @@ use lib.ListN.{length, drop}
 use lib.Ieee.{Float, nan, inf, fin}
 use Rattle.limits.specs.Limits
 use Rattle.limits.specs.Lowest.{Refusal, Lowest, _when_}
-use Rattle.scans.specs.Floats.{signed, InSteps, NotFinite, NotWhole, Beyond}
+use Rattle.scans.specs.Floats.{withSign, InSteps, NotFinite, NotWhole, Beyond}
 use Rattle.scans.specs.Scanned.{One}
 use Rattle.scans.specs.declared.Point.{Point}
 use Rattle.blanks.specs.declared.Blank.{Blank}
@@ -46,10 +46,10 @@ wedgeCorners w d h = all (zero ∷ d ∷ []) (λ y. corner zero y zero ++ corner
 abbrev pub pieceCorners : ℤ → ℤ → ℤ → List ℤ
 pieceCorners w d h = corner zero zero zero ++ corner w zero zero ++ corner zero d zero ++ corner zero zero h
 
-abbrev pub cornersOf : Blank → ℤ → ℤ → ℤ → List ℤ
-cornersOf (Box _ _ _) w d h = boxCorners w d h
-cornersOf (Wedge _ _ _) w d h = wedgeCorners w d h
-cornersOf (Corner _ _ _) w d h = pieceCorners w d h
+abbrev pub blankCorners : Blank → ℤ → ℤ → ℤ → List ℤ
+blankCorners (Box _ _ _) w d h = boxCorners w d h
+blankCorners (Wedge _ _ _) w d h = wedgeCorners w d h
+blankCorners (Corner _ _ _) w d h = pieceCorners w d h
 
 -- "They are written to lent room as 24, 18 or 12 numbers"
 abbrev pub needed : Blank → ℕ
@@ -62,7 +62,7 @@ needed (Corner _ _ _) = 12
 abbrev pub ZeroOrLess : Float → Type 0
 ZeroOrLess nan = ⊥
 ZeroOrLess (inf s) = ⊥
-ZeroOrLess (fin s m e) = signed s m ≤ℤ zero
+ZeroOrLess (fin s m e) = withSign s m ≤ℤ zero
 
 -- the refusals of the sizes alone
 abbrev pub sizeRefusals : Point → List Refusal

@@ -4,7 +4,7 @@ ghost use mathlib.Core.Path.{_≡_};
 ghost use mathlib.Core.List.{_++_};
 ghost use Prim.Native.Nat.{_≤_};
 ghost use lib.ListN.{length, drop};
-ghost use Rattle.blanks.specs.Blanks.{sizes, needed, cornersOf, WrittenAs};
+ghost use Rattle.blanks.specs.Blanks.{sizes, needed, blankCorners, WrittenAs};
 ghost use Rattle.blanks.specs.Chosen.{chosen, chosenAll, allPositive, point, SizesAs};
 
 // A blank's sizes, in millimetres.
@@ -112,7 +112,7 @@ fn fill(table: &[u8], width: f32, depth: f32, height: f32, room: &mut [i32]) -> 
 
 // The blank's corners at the start of the room, or the lowest refusal and the room as it was.
 pub fn corners(blank: Blank, room: &mut [i32]) -> Written
-    ensures { λ r. ⌜ WrittenAs (sizes blank) (needed blank) (cornersOf blank) (now (room .entry)) (now (room .exit)) r ⌝ }
+    ensures { λ r. ⌜ WrittenAs (sizes blank) (needed blank) (blankCorners blank) (now (room .entry)) (now (room .exit)) r ⌝ }
 {
     match blank {
         Blank::Box {

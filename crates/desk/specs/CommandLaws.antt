@@ -25,14 +25,15 @@ use Rattle.pieces.specs.declared.placement.Placement.{Placement}
 use Rattle.pieces.specs.declared.placement.Offset.{Offset}
 use Rattle.pieces.specs.Pieces.{Store, countIn, heldIn, axesOf, pieceAt}
 use Rattle.pieces.specs.Store.{ranged}
-use Rattle.verdict.specs.Answers.{nothing, Carries}
-use Rattle.verdict.specs.AnswerLaws.{OneAnswer, one-answer}
+use Rattle.verdict.specs.Answers.{nothing, Carries, OneAnswer}
+use Rattle.verdict.specs.AnswerLaws.{one-answer}
 use Rattle.verdict.specs.declared.Answer.{Answer}
 use Rattle.desk_put.specs.Handled.{Emptied, PutDown}
 use Rattle.rows_right.specs.RowLaws.{carries-at, right-once}
 use Rattle.desk_state.specs.Desk.{Desk, deskOf, InOrder}
 use Rattle.rows_right.specs.Right.{RowRight}
-use Rattle.desk.specs.Commands.{Commanded, freshDesk, startRefusals, Started, loadRefusals, Loads, placeRefusals, Places, moveRefusals, MovedBy, Moves, removeRefusals, Removed, contactRefusals, ListsContacts, pairRefusals, Pairs, Does}
+use Rattle.desk.specs.Commands.{Commanded, freshDesk, startRefusals, Started, loadRefusals, Loads, placeRefusals, Places, moveRefusals}
+use Rattle.desk.specs.Commands.{MovedBy, Moves, removeRefusals, Removed, contactRefusals, ListsContacts, pairRefusals, Pairs, Does}
 use Rattle.desk.specs.declared.Command.{Command}
 use Rattle.desk.specs.declared.Command.the-variants.{Start, Load, Place, Move, Remove}
 use Rattle.desk.specs.declared.Outcome.{Outcome}

@@ -30,9 +30,9 @@ abbrev pub numberOf : Outcome → ℕ
 numberOf (Done n) = 0
 numberOf (Refused n) = n
 
-abbrev pub countOf : Outcome → ℕ
-countOf (Done n) = n
-countOf (Refused n) = 0
+abbrev pub outcomeCount : Outcome → ℕ
+outcomeCount (Done n) = n
+outcomeCount (Refused n) = 0
 
 -- "0 is done": what is refused has another number
 abbrev pub Named : Outcome → Type 0
@@ -44,7 +44,7 @@ Named (Refused n) = 0 < n
 pub record Commanded (l : List Refusal) (Accepted : ℕ → Type 0) (before after : Desk) (r : Outcome) : Type 0 where
   pub refusal : Lowest l (numberOf r)
   pub kept : 0 < numberOf r → after ≡ before
-  pub done : numberOf r ≡ 0 → Accepted (countOf r)
+  pub done : numberOf r ≡ 0 → Accepted (outcomeCount r)
   pub named : Named r
 
 -- ---- "Start afresh: no shapes, places or rows, tallies 0, every mark 65,535." Cells that mean nothing are 0 too

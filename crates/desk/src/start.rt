@@ -30,7 +30,9 @@ pub fn start(
     book: &mut [u32; limits::BOOK],
     marks: &mut [u16],
 ) -> Outcome
-    ensures { λ r. ⌜ Started (deskOf (now (shapes .entry)) (now (places .entry)) (now (rows .entry)) (now (book .entry)) (now (marks .entry))) (deskOf (now (shapes .exit)) (now (places .exit)) (now (rows .exit)) (now (book .exit)) (now (marks .exit))) r ⌝ }
+    ensures { λ r. ⌜ Started
+        (deskOf (now (shapes .entry)) (now (places .entry)) (now (rows .entry)) (now (book .entry)) (now (marks .entry)))
+        (deskOf (now (shapes .exit)) (now (places .exit)) (now (rows .exit)) (now (book .exit)) (now (marks .exit))) r ⌝ }
 {
     if marks.len() != limits::MARKS {
         return Outcome::Refused(limits::DISORDER);

@@ -8,7 +8,7 @@ use lib.IntN.{ℤ, natAbs}
 use Rattle.limits.specs.Limits
 use Rattle.limits.specs.Lowest.{Lowest}
 use Rattle.pieces.specs.Pieces.{pieceAt, Taken}
-use Rattle.pieces.specs.Boxes.{Piece}
+use Rattle.pieces.specs.Boxes.{PlacedPiece}
 use Rattle.verdict.specs.Answers.{nothing, Carries}
 use Rattle.verdict.specs.declared.Answer.{Answer}
 use Rattle.desk_state.specs.Desk.{Desk, InOrder}
@@ -36,7 +36,7 @@ module _ (d : Desk) (first second : ℤ) {a b : ℤ} (ea : a ≡ first) (eb : b 
     j-is : j ≡ natAbs second
     j-is = indexed-is (subst (λ (z : ℤ). Indexed Limits.places z j) eb ij) (pair-given .second-place)
 
-    pub may-pair : Piece (d .store) i × Piece (d .store) j
+    pub may-pair : PlacedPiece (d .store) i × PlacedPiece (d .store) j
     may-pair = (
       record { order = o .pieces; taken = subst (Taken (d .store .places)) (sym i-is) (pair-given .first-taken) },
       record {

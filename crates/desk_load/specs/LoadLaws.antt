@@ -14,9 +14,9 @@ use Rattle.limits.specs.Limits
 use Rattle.limits.specs.Numbered.{Numbered}
 use Rattle.space.specs.Lists.{LengthFits, InReach}
 use Rattle.ints.specs.Cases.{by-same, by-less}
-use Rattle.marks.specs.Marks.{Axis, axisOf, placeOf, sideOf, valueOf, isMark, earlier, InPlace, InPlaceMarks, Agree}
+use Rattle.marks.specs.Marks.{Axis, axisOf, markPlace, sideOf, markValue, isMark, earlier, InPlace, InPlaceMarks, Agree}
 use Rattle.marks.specs.Order.{mark-low, no-mark}
-use Rattle.pieces.specs.Pieces.{Store, storeOf, Sized, Taken, Loaded, PiecesInOrder, countIn, cornersOf, shapeNumber, shapeAt, axesOf, loadedIn}
+use Rattle.pieces.specs.Pieces.{Store, storeOf, Sized, Taken, Loaded, PiecesInOrder, countIn, cornersOf, shapeValue, shapeAt, axesOf, loadedIn}
 use Rattle.pieces.specs.Store.{SameAt, same-low, same-high, taken-of}
 use Rattle.pieces.specs.Storing.{sets-other, sets-at}
 use Rattle.desk_state.specs.Desk.{Desk, InOrder, loadedAt}
@@ -25,14 +25,14 @@ use Rattle.desk_state.specs.Desk.{Desk, InOrder, loadedAt}
 module _ {a b : Axis} (g : Agree a b) where
   mark-agrees : (m : ℕ) → isMark a m ≡ isMark b m
   mark-agrees m = by-less m Limits.axisMarks
-      (λ h. ap (λ (t : Bool). ltb m Limits.axisMarks && t) (g .taken (placeOf m) (omega arith)))
+      (λ h. ap (λ (t : Bool). ltb m Limits.axisMarks && t) (g .taken (markPlace m) (omega arith)))
       (λ h. no-mark a m h ∙ sym (no-mark b m h))
 
-  value-agrees : (m : ℕ) → isMark a m ≡ true → valueOf a m ≡ valueOf b m
+  value-agrees : (m : ℕ) → isMark a m ≡ true → markValue a m ≡ markValue b m
   value-agrees m h =
       let l = mark-low a m h in
-      let p : placeOf m < Limits.places = omega (arith, l .0) in
-      ap₂ (λ (u v : ℤ). cond (eqb (sideOf m) 0) u v) (g .low (placeOf m) p (l .1)) (g .high (placeOf m) p (l .1))
+      let p : markPlace m < Limits.places = omega (arith, l .0) in
+      ap₂ (λ (u v : ℤ). cond (eqb (sideOf m) 0) u v) (g .low (markPlace m) p (l .1)) (g .high (markPlace m) p (l .1))
 
   earlier-agrees : (m n : ℕ) → isMark a m ≡ true → isMark a n ≡ true → earlier a m n ≡ earlier b m n
   unfolding earlier
@@ -72,7 +72,7 @@ module _ (d : Store) (s : ℕ) (numbers : List ℤ) (o : PiecesInOrder d) (new :
   pub load-count : (i : ℕ) → (i ≡ s → ⊥) → cornersOf loads i ≡ cornersOf d i
   load-count i f = ap natAbs (count-stays i f)
 
-  pub load-number : (i k : ℕ) → (i ≡ s → ⊥) → k < Limits.shapeNumbers → shapeNumber loads i k ≡ shapeNumber d i k
+  pub load-number : (i k : ℕ) → (i ≡ s → ⊥) → k < Limits.shapeNumbers → shapeValue loads i k ≡ shapeValue d i k
   load-number i k f h =
       let e : i * Limits.shapeCells + (1 + k) ≡ i * Limits.shapeCells + 1 + k = omega arith in
       subst (λ (n : ℕ). getD (loads .shapes) n (pos 0) ≡ getD (d .shapes) n (pos 0)) e (other-cell i (1 + k) f (omega arith))
@@ -117,7 +117,7 @@ module _ (d : Store) (s : ℕ) (numbers : List ℤ) (o : PiecesInOrder d) (new :
     pub load-count-here : cornersOf loads s ≡ length numbers / 3
     load-count-here = ap natAbs count-here
 
-    pub load-number-here : (k : ℕ) → k < length numbers → shapeNumber loads s k ≡ getD numbers k (pos 0)
+    pub load-number-here : (k : ℕ) → k < length numbers → shapeValue loads s k ≡ getD numbers k (pos 0)
     load-number-here k l =
         let e : s * Limits.shapeCells + 1 + k ≡ s * Limits.shapeCells + suc k = omega arith in
         ap (λ (n : ℕ). getD (loads .shapes) n (pos 0)) e ∙ here-cell (suc k) (omega arith)
@@ -143,9 +143,9 @@ module _ (d : Store) (s : ℕ) (numbers : List ℤ) (o : PiecesInOrder d) (new :
             (λ e. subst (λ n. Numbered (Limits.corners + 1) (countIn (loads .shapes) n)) (sym e) (subst (Numbered (Limits.corners + 1)) (sym count-here) here))
             (λ f. subst (Numbered (Limits.corners + 1)) (sym (count-stays i f)) (o .shapes .few i l))
 
-        near : (i k : ℕ) → i < Limits.shapes → k < 3 * cornersOf loads i → Within Limits.shapeReach (shapeNumber loads i k)
+        near : (i k : ℕ) → i < Limits.shapes → k < 3 * cornersOf loads i → Within Limits.shapeReach (shapeValue loads i k)
         near i k l h = by-same i s
-            (λ e. subst (λ n. Within Limits.shapeReach (shapeNumber loads n k)) (sym e)
+            (λ e. subst (λ n. Within Limits.shapeReach (shapeValue loads n k)) (sym e)
             (let below : k < length numbers = (let c = ap (cornersOf loads) e ∙ load-count-here in omega arith) in
             subst (Within Limits.shapeReach) (sym (load-number-here k below)) (r .all k below)))
             (λ f.

@@ -1,7 +1,7 @@
 -- A load, from its tests to its record: what the tests have asked, and that a shape which was not loaded may be.
 -- A callee sees a signed number through its bits; each law is told that what was handed on is what was handed in.
 use mathlib.Core.Path.{_≡_, refl, sym, ap, _∙_, subst}
-use mathlib.Core.List.{List, [], _++_}
+use mathlib.Core.List.{List, [], _∷_, _++_}
 use mathlib.Core.Logic.{inl, inr}
 use Prim.Native.Nat.{ℕ, suc, _+_, _*_, _/_, _<_, _≤_}
 use native.Mathlib.Omega.{arith}
@@ -12,7 +12,7 @@ use mir.Syntax.{w32}
 use mir.Val.{toZ}
 use mir.Facts.{toZ-pos}
 use Rattle.limits.specs.Limits
-use Rattle.limits.specs.Lowest.{Lowest}
+use Rattle.limits.specs.Lowest.{Refusal, Lowest, _when_}
 use Rattle.space.specs.Lists.{LengthFits, InReach}
 use Rattle.pieces.specs.Pieces.{Store, Sized, Loaded, storeOf, loadedIn}
 use Rattle.desk_state.specs.Desk.{Desk, deskOf, InOrder, loadedAt}
@@ -43,6 +43,16 @@ shape-stored l s numbers h =
     let one : s * Limits.shapeCells + 1 ≡ suc (s * Limits.shapeCells) = omega arith in
     let count : toZ w32 (length numbers / 3) ≡ pos (length numbers / 3) = toZ-pos w32 (omega arith) in
     rw (one, count)
+
+-- ---- what the corners alone are asked: 3 and 4 of a load's refusals
+abbrev pub cornerRefusals : List ℤ → List Refusal
+cornerRefusals numbers =
+    Limits.listLength when (LengthFits (length numbers) → ⊥)
+    ∷ Limits.cornerRange when (InReach Limits.shapeReach numbers → ⊥)
+    ∷ []
+
+abbrev pub CornersAsked : List ℤ → ℕ → Type 0
+CornersAsked numbers n = Asked (cornerRefusals numbers) (LengthFits (length numbers) × InReach Limits.shapeReach numbers) n
 
 -- ---- what a load may go on with
 pub record MayLoad (shapes : List ℤ) (shape : ℤ) (numbers : List ℤ) : Type 0 where

@@ -8,7 +8,7 @@ ghost use Rattle.limits.specs.Limits;
 ghost use Rattle.pieces.specs.Pieces.{loadedIn};
 ghost use Rattle.desk_state.specs.Desk.{deskOf};
 ghost use Rattle.desk.specs.Commands.{Loads};
-ghost use Rattle.desk_load.specs.Loading.{LoadAsked};
+ghost use Rattle.desk_load.specs.Loading.{LoadAsked, CornersAsked};
 use desk::Outcome;
 use desk_state::desk_in_order;
 use pieces::index::index_of;
@@ -26,7 +26,9 @@ pub fn load(
     shape: i32,
     numbers: &[i32],
 ) -> Outcome
-    ensures { λ r. ⌜ Loads (deskOf (now (shapes .entry)) (now (places .entry)) (now (rows .entry)) (now (book .entry)) (now (marks .entry))) shape (now (numbers .entry)) (deskOf (now (shapes .exit)) (now (places .entry)) (now (rows .entry)) (now (book .entry)) (now (marks .entry))) r ⌝ }
+    ensures { λ r. ⌜ Loads
+        (deskOf (now (shapes .entry)) (now (places .entry)) (now (rows .entry)) (now (book .entry)) (now (marks .entry))) shape (now (numbers .entry))
+        (deskOf (now (shapes .exit)) (now (places .entry)) (now (rows .entry)) (now (book .entry)) (now (marks .entry))) r ⌝ }
 {
     if !desk_in_order(shapes, places, rows, book, marks) {
         return Outcome::Refused(limits::DISORDER);
@@ -49,14 +51,25 @@ fn load_refusal(shapes: &[i32; limits::SHAPES_LENGTH], shape: i32, numbers: &[i3
     if limits::SHAPES <= s {
         return limits::SHAPE_NUMBER;
     }
+    let number = corners_refusal(numbers);
+    if number != limits::DONE {
+        return number;
+    }
+    if is_loaded(shapes, s) {
+        return limits::SHAPE_LOADED;
+    }
+    limits::DONE
+}
+
+// What the corners alone are refused for: 3, 4.
+fn corners_refusal(numbers: &[i32]) -> u8
+    ensures { λ r. ⌜ CornersAsked (now (numbers .entry)) r ⌝ }
+{
     if !length_fits(numbers.len()) {
         return limits::LIST_LENGTH;
     }
     if !in_reach(numbers, limits::SHAPE_REACH) {
         return limits::CORNER_RANGE;
-    }
-    if is_loaded(shapes, s) {
-        return limits::SHAPE_LOADED;
     }
     limits::DONE
 }

@@ -30,7 +30,9 @@ pub fn move_piece(
     turn: i32,
     o: Offset,
 ) -> Outcome
-    ensures { λ r. ⌜ Moves (deskOf (now (shapes .entry)) (now (places .entry)) (now (rows .entry)) (now (book .entry)) (now (marks .entry))) place turn o (deskOf (now (shapes .entry)) (now (places .exit)) (now (rows .exit)) (now (book .exit)) (now (marks .exit))) r ⌝ }
+    ensures { λ r. ⌜ Moves
+        (deskOf (now (shapes .entry)) (now (places .entry)) (now (rows .entry)) (now (book .entry)) (now (marks .entry))) place turn o
+        (deskOf (now (shapes .entry)) (now (places .exit)) (now (rows .exit)) (now (book .exit)) (now (marks .exit))) r ⌝ }
 {
     if !desk_in_order(shapes, places, rows, book, marks) {
         return Outcome::Refused(limits::DISORDER);
@@ -87,7 +89,9 @@ fn move_to(
     o: Offset,
 ) -> u32
     requires { ⌜ MayTurn (deskOf (now shapes) (now places) (now rows) (now book) (now marks)) place turn o ⌝ }
-    ensures { λ r. ⌜ MovedBy (deskOf (now (shapes .entry)) (now (places .entry)) (now (rows .entry)) (now (book .entry)) (now (marks .entry))) place turn o (deskOf (now (shapes .entry)) (now (places .exit)) (now (rows .exit)) (now (book .exit)) (now (marks .exit))) r ⌝ }
+    ensures { λ r. ⌜ MovedBy
+        (deskOf (now (shapes .entry)) (now (places .entry)) (now (rows .entry)) (now (book .entry)) (now (marks .entry))) place turn o
+        (deskOf (now (shapes .entry)) (now (places .exit)) (now (rows .exit)) (now (book .exit)) (now (marks .exit))) r ⌝ }
 {
     let old_x = keys_of(shapes, places, 0);
     let old_y = keys_of(shapes, places, 1);

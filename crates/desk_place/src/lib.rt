@@ -24,7 +24,9 @@ pub fn place(
     place: i32,
     q: Placement,
 ) -> Outcome
-    ensures { λ r. ⌜ Places (deskOf (now (shapes .entry)) (now (places .entry)) (now (rows .entry)) (now (book .entry)) (now (marks .entry))) place q (deskOf (now (shapes .entry)) (now (places .exit)) (now (rows .exit)) (now (book .exit)) (now (marks .exit))) r ⌝ }
+    ensures { λ r. ⌜ Places
+        (deskOf (now (shapes .entry)) (now (places .entry)) (now (rows .entry)) (now (book .entry)) (now (marks .entry))) place q
+        (deskOf (now (shapes .entry)) (now (places .exit)) (now (rows .exit)) (now (book .exit)) (now (marks .exit))) r ⌝ }
 {
     if !desk_in_order(shapes, places, rows, book, marks) {
         return Outcome::Refused(limits::DISORDER);
@@ -67,7 +69,9 @@ pub fn remove(
     marks: &mut [u16],
     place: i32,
 ) -> Outcome
-    ensures { λ r. ⌜ Removed (deskOf (now (shapes .entry)) (now (places .entry)) (now (rows .entry)) (now (book .entry)) (now (marks .entry))) place (deskOf (now (shapes .entry)) (now (places .exit)) (now (rows .exit)) (now (book .exit)) (now (marks .exit))) r ⌝ }
+    ensures { λ r. ⌜ Removed
+        (deskOf (now (shapes .entry)) (now (places .entry)) (now (rows .entry)) (now (book .entry)) (now (marks .entry))) place
+        (deskOf (now (shapes .entry)) (now (places .exit)) (now (rows .exit)) (now (book .exit)) (now (marks .exit))) r ⌝ }
 {
     if !desk_in_order(shapes, places, rows, book, marks) {
         return Outcome::Refused(limits::DISORDER);

@@ -11,7 +11,7 @@ use Rattle.rows.specs.Handling.{rows-after-clearing, rows-after-handling}
 use Rattle.marks.specs.Marks.{Axes, OthersStayMarks}
 use Rattle.marks.specs.Keys.{KeyedMarks}
 use Rattle.marks.specs.Promises.{ReorderedMarks}
-use Rattle.pieces.specs.Boxes.{Piece}
+use Rattle.pieces.specs.Boxes.{PlacedPiece}
 use Rattle.pieces.specs.declared.placement.Placement.{Placement}
 use Rattle.pieces.specs.Pieces.{Store, storeOf, Sized, Taken, OthersStay, PiecesInOrder, axesOf, putIn}
 use Rattle.pieces.specs.Store.{ranged}
@@ -50,7 +50,7 @@ module _ {d : Desk} {p : ℕ} {q : Placement} {places : List ℤ} (size : Sized 
   stored-is = rw (sym e)
 
   -- the piece that was put
-  pub put-piece : Piece stored p
+  pub put-piece : PlacedPiece stored p
   put-piece = record {
     order = subst PiecesInOrder stored-is (put-order (d .store) p q size (m .place) (m .shape) (m .order .pieces) (m .loaded) (m .turn) (m .offset));
     taken = subst (λ (k : Store). Taken (k .places) p) stored-is (put-taken (d .store) p q size (m .place) (m .shape));

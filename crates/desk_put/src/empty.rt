@@ -19,7 +19,9 @@ pub fn empty_place(
     place: usize,
 )
     requires { ⌜ InOrder (deskOf (now shapes) (now places) (now rows) (now book) (now marks)) × (place < Limits.places) ⌝ }
-    ensures { λ _. ⌜ Emptied (deskOf (now (shapes .entry)) (now (places .entry)) (now (rows .entry)) (now (book .entry)) (now (marks .entry))) place (deskOf (now (shapes .entry)) (now (places .exit)) (now (rows .exit)) (now (book .exit)) (now (marks .exit))) ⌝ }
+    ensures { λ _. ⌜ Emptied
+        (deskOf (now (shapes .entry)) (now (places .entry)) (now (rows .entry)) (now (book .entry)) (now (marks .entry))) place
+        (deskOf (now (shapes .entry)) (now (places .exit)) (now (rows .exit)) (now (book .exit)) (now (marks .exit))) ⌝ }
 {
     sized_store(shapes, places);
     places[limits::PLACE_CELLS * place] = 0;

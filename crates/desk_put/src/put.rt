@@ -20,7 +20,9 @@ pub fn put_place(
     q: Placement,
 )
     requires { ⌜ MayPut (deskOf (now shapes) (now places) (now rows) (now book) (now marks)) place q ⌝ }
-    ensures { λ _. ⌜ PutDown (deskOf (now (shapes .entry)) (now (places .entry)) (now (rows .entry)) (now (book .entry)) (now (marks .entry))) place q (deskOf (now (shapes .entry)) (now (places .exit)) (now (rows .exit)) (now (book .exit)) (now (marks .exit))) ⌝ }
+    ensures { λ _. ⌜ PutDown
+        (deskOf (now (shapes .entry)) (now (places .entry)) (now (rows .entry)) (now (book .entry)) (now (marks .entry))) place q
+        (deskOf (now (shapes .entry)) (now (places .exit)) (now (rows .exit)) (now (book .exit)) (now (marks .exit))) ⌝ }
 {
     sized_store(shapes, places);
     put_placement(places, place, q);

@@ -56,16 +56,10 @@ pub fn pair_refusal(places: &[i32; limits::PLACES_LENGTH], first: i32, second: i
 {
     let i = index_of(first, limits::PLACES);
     let j = index_of(second, limits::PLACES);
-    if limits::PLACES <= i {
+    if limits::PLACES <= i || limits::PLACES <= j {
         return limits::PLACE_NUMBER;
     }
-    if limits::PLACES <= j {
-        return limits::PLACE_NUMBER;
-    }
-    if !is_taken(places, i) {
-        return limits::PLACE_EMPTY;
-    }
-    if !is_taken(places, j) {
+    if !is_taken(places, i) || !is_taken(places, j) {
         return limits::PLACE_EMPTY;
     }
     if i == j {

@@ -19,7 +19,9 @@ pub fn tell(
     book: &mut [u32; limits::BOOK],
     marks: &mut [u16],
 ) -> Outcome
-    ensures { λ r. ⌜ Does command (now (numbers .entry)) (deskOf (now (shapes .entry)) (now (places .entry)) (now (rows .entry)) (now (book .entry)) (now (marks .entry))) (deskOf (now (shapes .exit)) (now (places .exit)) (now (rows .exit)) (now (book .exit)) (now (marks .exit))) r ⌝ }
+    ensures { λ r. ⌜ Does command (now (numbers .entry))
+        (deskOf (now (shapes .entry)) (now (places .entry)) (now (rows .entry)) (now (book .entry)) (now (marks .entry)))
+        (deskOf (now (shapes .exit)) (now (places .exit)) (now (rows .exit)) (now (book .exit)) (now (marks .exit))) r ⌝ }
 {
     match command {
         Command::Start => start(shapes, places, rows, book, marks),

@@ -55,6 +55,19 @@ noRow = 255
 abbrev pub noMark : ℕ
 noMark = 65535
 
+-- a row's verdict: "0 boxes apart", 1 separate, 2 touching, 3 penetrating
+abbrev pub apart : ℕ
+apart = 0
+
+abbrev pub separate : ℕ
+separate = 1
+
+abbrev pub touching : ℕ
+touching = 2
+
+abbrev pub penetrating : ℕ
+penetrating = 3
+
 -- "All geometry is in whole steps, 64 to the millimetre." "each from −65,536 to 65,536" "within ±131,072"
 abbrev pub steps : ℕ
 steps = 64

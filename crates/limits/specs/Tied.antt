@@ -4,6 +4,7 @@ use mathlib.Core.List.{[], _∷_}
 use lib.IntN.{pos}
 use Rattle.limits.specs.Limits
 use Rattle.limits.specs.declared.Sizes.{Sizes}
+use Rattle.limits.specs.declared.Verdicts.{Verdicts}
 use Rattle.limits.specs.declared.Ranges.{Ranges}
 use Rattle.limits.specs.declared.Refusals.{Refusals}
 
@@ -27,6 +28,14 @@ theSizes = record {
   «no_mark» = Limits.noMark;
 }
 
+abbrev pub theVerdicts : Verdicts
+theVerdicts = record {
+  apart = Limits.apart;
+  separate = Limits.separate;
+  touching = Limits.touching;
+  penetrating = Limits.penetrating;
+}
+
 abbrev pub theRanges : Ranges
 theRanges = record {
   steps = pos Limits.steps;
@@ -40,6 +49,7 @@ theRanges = record {
 abbrev pub theRefusals : Refusals
 theRefusals = record {
   desk =
-      Limits.done ∷ Limits.disorder ∷ Limits.shapeNumber ∷ Limits.listLength ∷ Limits.cornerRange ∷ Limits.shapeLoaded ∷ Limits.shapeMissing ∷ Limits.placeNumber ∷ Limits.placeTaken ∷ Limits.placeEmpty ∷ Limits.turnNumber ∷ Limits.offsetRange ∷ Limits.samePlace ∷ Limits.shortRoom ∷ [];
+      Limits.done ∷ Limits.disorder ∷ Limits.shapeNumber ∷ Limits.listLength ∷ Limits.cornerRange ∷ Limits.shapeLoaded ∷ Limits.shapeMissing
+      ∷ Limits.placeNumber ∷ Limits.placeTaken ∷ Limits.placeEmpty ∷ Limits.turnNumber ∷ Limits.offsetRange ∷ Limits.samePlace ∷ Limits.shortRoom ∷ [];
   text = Limits.lengthForm ∷ Limits.lengthRange ∷ Limits.notFinite ∷ Limits.notWhole ∷ Limits.floatRange ∷ Limits.sizeZero ∷ Limits.placedRange ∷ [];
 }

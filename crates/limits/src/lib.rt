@@ -1,7 +1,7 @@
 // Every number that document 01 fixes and a request may change, once: sizes, ranges, and the refusals by name.
-// specs/ has the same numbers for contracts; the three `tied_` functions below tie the two together.
+// specs/ has the same numbers for contracts; the four `tied_` functions below tie the two together.
 ghost use mathlib.Core.Path.{_≡_};
-ghost use Rattle.limits.specs.Tied.{theSizes, theRanges, theRefusals};
+ghost use Rattle.limits.specs.Tied.{theSizes, theVerdicts, theRanges, theRefusals};
 
 // How many there are.
 pub const SHAPES: usize = 32;
@@ -39,6 +39,15 @@ pub const TALLIES: usize = 4;
 pub const NO_ROW: u8 = 255;
 
 pub const NO_MARK: u16 = 65535;
+
+// What a row says of a pair: that the boxes are apart, or the verdict of the two pieces.
+pub const APART: u8 = 0;
+
+pub const SEPARATE: u8 = 1;
+
+pub const TOUCHING: u8 = 2;
+
+pub const PENETRATING: u8 = 3;
 
 // The ranges, in steps: a shape's corner numbers and an offset's; a placed corner's.
 pub const STEPS: i32 = 64;
@@ -125,6 +134,13 @@ struct Ranges {
     most_hundredths: u32,
 }
 
+struct Verdicts {
+    apart: u8,
+    separate: u8,
+    touching: u8,
+    penetrating: u8,
+}
+
 struct Refusals {
     desk: [u8; 14],
     text: [u8; 7],
@@ -151,6 +167,18 @@ fn tied_sizes() -> Sizes
         tallies: TALLIES,
         no_row: NO_ROW,
         no_mark: NO_MARK,
+    }
+}
+
+// The verdicts of this file are those of specs/.
+fn tied_verdicts() -> Verdicts
+    ensures { λ r. ⌜ r ≡ theVerdicts ⌝ }
+{
+    Verdicts {
+        apart: APART,
+        separate: SEPARATE,
+        touching: TOUCHING,
+        penetrating: PENETRATING,
     }
 }
 

@@ -33,6 +33,6 @@ Finds w [] Else r = Else r
 Finds w (entry ∷ table) Else r = ((w ≡ entry .0) × (r ≡ entry .1)) ⊎ ((w ≡ entry .0 → ⊥) × Finds w table Else r)
 
 -- w is no word of the table
-abbrev pub Missing : {A : Type 0} → List ℕ → List (List ℕ × A) → Type 0
-Missing w [] = Unit {0}
-Missing w (entry ∷ table) = (w ≡ entry .0 → ⊥) × Missing w table
+abbrev pub NotIn : {A : Type 0} → List ℕ → List (List ℕ × A) → Type 0
+NotIn w [] = Unit {0}
+NotIn w (entry ∷ table) = (w ≡ entry .0 → ⊥) × NotIn w table

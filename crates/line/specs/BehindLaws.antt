@@ -10,8 +10,8 @@ use native.Mathlib.Omega.{arith}
 use lib.IntN.{ℤ}
 use lib.ListN.{length, drop, length-drop}
 use lib.Seq.{drop-drop}
-use Rattle.text_words.specs.Words.{firstWord, wordsOf, Stuck, Listed}
-use Rattle.text_words.specs.WordLaws.{first-le, words-last, words-next}
+use Rattle.text_words.specs.Words.{spaceByte, firstWord, wordsOf, Stuck, Listed}
+use Rattle.text_cut.specs.CutLaws.{first-le, parts-last, parts-next}
 use Rattle.text_words.specs.ReadLaws.{never-stuck}
 use Rattle.text_words.specs.declared.Count.the-variants.{Numbers}
 use Rattle.line.specs.Behind.{behind, NumbersIn, Finds}
@@ -31,9 +31,10 @@ pub words-are : (line : List ℕ) → wordsOf line ≡ firstWord line ∷ behind
 unfolding decLt
 words-are line =
     elim (decLt (length (firstWord line)) (length line)) [
-      | yes h ↦ words-next line h ∙ ap (λ (k : ℕ). firstWord line ∷ wordsOf (drop k line)) (sym (add-one (length (firstWord line)))) ∙ ap (λ (ws : List (List ℕ)). firstWord line ∷ ws)
+      | yes h ↦ parts-next spaceByte line h ∙ ap (λ (k : ℕ). firstWord line ∷ wordsOf (drop k line)) (sym (add-one (length (firstWord line)))) ∙ ap (λ (ws : List (List ℕ)). firstWord line ∷ ws)
           (sym (behind-some line (length (firstWord line)) h))
-      | no n ↦ words-last line (omega (arith, first-le line, n)) ∙ ap (λ (ws : List (List ℕ)). firstWord line ∷ ws) (sym (behind-none line (length (firstWord line)) (omega (arith, n))))
+      | no n ↦ parts-last spaceByte line (omega (arith, first-le spaceByte line, n))
+          ∙ ap (λ (ws : List (List ℕ)). firstWord line ∷ ws) (sym (behind-none line (length (firstWord line)) (omega (arith, n))))
     ]
 
 -- and the words behind a word are the next one and the words behind that

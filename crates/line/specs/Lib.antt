@@ -1,4 +1,4 @@
-pub mod Held
+pub mod Parted
 pub mod Behind
 pub mod BehindLaws
 pub mod Named

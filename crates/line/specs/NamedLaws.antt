@@ -6,7 +6,7 @@ use mathlib.Core.List.{List, [], _∷_, _++_}
 use mathlib.Core.Logic.{inl, inr}
 use native.Mathlib.Omega.{arith}
 use lib.ListN.{length}
-use Rattle.line.specs.Behind.{Finds, Missing}
+use Rattle.line.specs.Behind.{Finds, NotIn}
 use Rattle.line.specs.Named.{NameOf, namesOf, valueOf}
 
 -- the number among all names is known once it is among those that are left, after k that the word is not
@@ -57,7 +57,7 @@ named-in w (x ∷ t) more Else none k (inr n) h =
     inr (n .0, subst (λ (i : ℕ). Finds w t Else (valueOf (x ∷ t) none i)) (sym (n .1 .1)) (named-in w t more Else none (n .1 .0) (n .1 .2) (omega (arith, n .1 .1, h))))
 
 -- any other says that the word is none of them, and is the number among what is behind them
-pub named-past : {A : Type 0} (w : List ℕ) (table : List (List ℕ × A)) (more : List (List ℕ)) (k m : ℕ) → k ≡ length table + m → NameOf w (namesOf table ++ more) k → Missing w table × NameOf w more m
+pub named-past : {A : Type 0} (w : List ℕ) (table : List (List ℕ × A)) (more : List (List ℕ)) (k m : ℕ) → k ≡ length table + m → NameOf w (namesOf table ++ more) k → NotIn w table × NameOf w more m
 named-past w [] more k m e n = let z : k ≡ m = omega (arith, e) in (tt, subst (NameOf w more) z n)
 named-past w (x ∷ t) more k m e (inl n) = absurd (omega (arith, e, n .1))
 named-past w (x ∷ t) more k m e (inr n) =

@@ -7,56 +7,73 @@ use crate::out;
 use crate::parts::Index;
 use crate::parts::only_index;
 
-// The most cells of each buffer.
-const MOST_ROOM: usize = 8192;
+// "A line of more than 16,384 bytes gets one `?`" (docs/COMMANDS.md).
+pub const MOST_BYTES: usize = 16384;
+
+// The most cells of each buffer. A number of a line takes a digit and a space.
+const MOST_ROOM: usize = MOST_BYTES / 2;
 
 const MOST_MARKS: usize = 400;
 
-// The cells of `lent` that say how many are lent.
-pub const ROOM: usize = 0;
+// How many cells `lent` has, and which of them says how many of each buffer are lent.
+pub const COUNTS: usize = 2;
 
-pub const MARKS: usize = 1;
+pub const ROOM_LENT: usize = 0;
+
+pub const MARKS_LENT: usize = 1;
 
 // Before the first line: all of the room, and as many marks as a desk has.
-pub fn start() -> [usize; 2] {
+pub fn start() -> [usize; COUNTS] {
     [MOST_ROOM, limits::MARKS]
 }
 
-// The numbers of which so many are lent, and those of a line: each takes a digit and a space, and a line has two bytes for each cell.
-pub fn numbers() -> [i32; 8192]
+// The numbers of which so many are lent, and those of a line.
+pub fn numbers() -> [i32; MOST_ROOM]
     ensures { λ r. ⌜ 8192 ≡ length r ⌝ }
 {
-    [0; 8192]
+    [0; MOST_ROOM]
 }
 
 // The marks buffer: a fresh desk fills as many cells as it has.
-pub fn marks() -> [u16; 400]
+pub fn marks() -> [u16; MOST_MARKS]
     ensures { λ r. ⌜ 400 ≡ length r ⌝ }
 {
-    [0; 400]
+    [0; MOST_MARKS]
 }
 
 // `room N`: from 0 cells to all of them.
-pub fn room(line: &[u8], end: usize, lent: &mut [usize; 2], out: &mut [u8], at: usize) -> usize {
+pub fn room(
+    line: &[u8],
+    end: usize,
+    lent: &mut [usize; COUNTS],
+    out: &mut [u8],
+    at: usize,
+) -> usize {
     let Index::At(n) = only_index(line, end) else {
         return out::wrong(out, at);
     };
     if MOST_ROOM < n {
         return out::wrong(out, at);
     }
-    lent[ROOM] = n;
+    lent[ROOM_LENT] = n;
     out::done(out, at)
 }
 
 // `lend N`: from 0 cells to all of them.
-pub fn lend(line: &[u8], end: usize, lent: &mut [usize; 2], out: &mut [u8], at: usize) -> usize {
+pub fn lend(
+    line: &[u8],
+    end: usize,
+    lent: &mut [usize; COUNTS],
+    out: &mut [u8],
+    at: usize,
+) -> usize {
     let Index::At(n) = only_index(line, end) else {
         return out::wrong(out, at);
     };
     if MOST_MARKS < n {
         return out::wrong(out, at);
     }
-    lent[MARKS] = n;
+    lent[MARKS_LENT] = n;
     out::done(out, at)
 }
 

@@ -4,4 +4,3 @@ pub mod lent;
 pub mod names;
 pub mod out;
 pub mod parts;
-pub mod verdicts;

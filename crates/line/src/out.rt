@@ -7,11 +7,20 @@ ghost use lib.ListN.{length};
 // What is put in one go is no longer than this: a number with its minus, a word, two hex digits.
 const LONGEST: usize = 64;
 
+// The buffer's bytes.
+const BUFFER: usize = 16384;
+
+// The digits of the greatest count.
+const COUNT_DIGITS: usize = 20;
+
+// A byte in hex.
+const BYTE_DIGITS: usize = 2;
+
 // The buffer.
-pub fn buffer() -> [u8; 16384]
+pub fn buffer() -> [u8; BUFFER]
     ensures { λ r. ⌜ 16384 ≡ length r ⌝ }
 {
-    [0; 16384]
+    [0; BUFFER]
 }
 
 // Writes out what stands before a place, and hands back the buffer's start.
@@ -57,7 +66,7 @@ pub fn next_number(out: &mut [u8], at: usize, n: i64) -> usize {
 
 // A count in decimal.
 pub fn count(out: &mut [u8], at: usize, n: usize) -> usize {
-    let mut digits = [0u8; 20];
+    let mut digits = [0u8; COUNT_DIGITS];
     let k = io::decimal(n as u64, &mut digits);
     word(out, at, &digits[..k])
 }
@@ -115,12 +124,12 @@ fn pairs(out: &mut [u8], at: usize, bytes: &[u8]) -> usize {
     let mut next = at;
     let mut i: usize = 0;
     while i < bytes.len() {
-        next = hex(out, next, wide(bytes[i]), 2);
+        next = hex_byte(out, next, bytes[i]);
         i += 1;
     }
     next
 }
 
-fn wide(b: u8) -> u32 {
-    b as u32
+fn hex_byte(out: &mut [u8], at: usize, byte: u8) -> usize {
+    hex(out, at, byte as u32, BYTE_DIGITS)
 }

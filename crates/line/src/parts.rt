@@ -3,11 +3,11 @@
 ghost use mathlib.Core.Path.{_≡_};
 ghost use lib.IntN.{pos};
 ghost use lib.ListN.{length, getD};
-ghost use Rattle.line.specs.Held.{Parted};
+ghost use Rattle.line.specs.Parted.{Parted};
 ghost use Rattle.line.specs.Behind.{behind, NumbersIn, NotNegative};
 
 // Where the first and the second of three words end.
-pub enum Ends {
+pub enum WordEnds {
     At(usize, usize),
     Bad,
 }
@@ -27,19 +27,19 @@ pub fn after(line: &[u8], end: usize) -> usize {
 }
 
 // The words from a place to the line's end, if they are three.
-pub fn three_words(line: &[u8], start: usize) -> Ends
+pub fn three_words(line: &[u8], start: usize) -> WordEnds
     ensures { λ r. ⌜ Parted start (length (now (line .entry))) r ⌝ }
 {
     let first = text_words::word_end(line, start);
     let second = text_words::word_end(line, first + 1);
     if line.len() <= second {
-        return Ends::Bad;
+        return WordEnds::Bad;
     }
     let third = text_words::word_end(line, second + 1);
     if third < line.len() {
-        return Ends::Bad;
+        return WordEnds::Bad;
     }
-    Ends::At(first, second)
+    WordEnds::At(first, second)
 }
 
 // The one word behind a command's own, if it is a number.

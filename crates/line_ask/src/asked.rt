@@ -1,23 +1,31 @@
 // What the desk can be asked: the pair of two places, the contacts, the rows, the tallies, the marks, and a report for people.
 // The desk is only read.
-ghost use Prim.Native.Nat.{_<_};
 use crate::report::contact;
 use crate::report::report;
+use crate::tallies::APART;
+use crate::tallies::PENETRATING;
+use crate::tallies::SEPARATE;
+use crate::tallies::TOUCHING;
+use crate::tallies::total;
+use crate::tallies::wide_count;
 use desk::contacts::contacts;
 use desk_ask::pair;
 use desk_state::desk_in_order;
 use line::lent;
 use line::lent::at_most;
 use line::out;
-use line::verdicts::pair_answer;
 use line_command::Asked;
+use line_verdict::pair_answer;
 use rows_list::Listed;
+
+// A row in the listing of contacts: its two places and its verdict.
+const ROW_BYTES: usize = 3;
 
 // Asks the desk, with as much room and as many marks as are lent.
 pub fn ask(
     asked: Asked,
     room: &mut [u8],
-    lent: &[usize; 2],
+    lent: &[usize; lent::COUNTS],
     shapes: &[i32; limits::SHAPES_LENGTH],
     places: &[i32; limits::PLACES_LENGTH],
     rows: &[u8; limits::ROWS],
@@ -26,8 +34,8 @@ pub fn ask(
     out: &mut [u8],
     at: usize,
 ) -> usize {
-    let r = at_most(lent[lent::ROOM], room.len());
-    let m = at_most(lent[lent::MARKS], marks.len());
+    let r = at_most(lent[lent::ROOM_LENT], room.len());
+    let m = at_most(lent[lent::MARKS_LENT], marks.len());
     question(
         asked,
         &mut room[0..r],
@@ -94,8 +102,8 @@ fn listed(l: Listed, room: &[u8], out: &mut [u8], at: usize) -> usize {
     match l {
         Listed::Rows(n) => {
             let next = out::word(out, at, b"0");
-            let next = out::next_count(out, next, wide(n));
-            let written = at_most(3 * wide(n), room.len());
+            let next = out::next_count(out, next, wide_count(n));
+            let written = at_most(ROW_BYTES * wide_count(n), room.len());
             let next = each_byte(&room[0..written], out, next);
             out::end(out, next)
         }
@@ -126,11 +134,6 @@ fn all_rows(
     out::end(out, next)
 }
 
-// How many rows a book counts.
-fn total(book: &[u32; limits::BOOK]) -> usize {
-    wide(book[0]) + wide(book[1]) + wide(book[2]) + wide(book[3])
-}
-
 // Every cell in turn, in words or in numbers.
 pub fn each_row(rows: &[u8; limits::ROWS], in_words: bool, out: &mut [u8], at: usize) -> usize {
     let mut next = at;
@@ -145,7 +148,7 @@ pub fn each_row(rows: &[u8; limits::ROWS], in_words: bool, out: &mut [u8], at: u
 // In numbers a row is its two places and its verdict. A cell that has no row is passed over.
 fn row(k: usize, v: u8, in_words: bool, out: &mut [u8], at: usize) -> usize {
     if in_words {
-        return contact(k, v, out, at);
+        return contact(k, wide_byte(v), out, at);
     }
     if v == limits::NO_ROW {
         return at;
@@ -157,10 +160,10 @@ fn row(k: usize, v: u8, in_words: bool, out: &mut [u8], at: usize) -> usize {
 
 fn tallies(book: &[u32; limits::BOOK], out: &mut [u8], at: usize) -> usize {
     let next = out::word(out, at, b"0");
-    let next = out::next_count(out, next, wide(book[0]));
-    let next = out::next_count(out, next, wide(book[1]));
-    let next = out::next_count(out, next, wide(book[2]));
-    let next = out::next_count(out, next, wide(book[3]));
+    let next = out::next_count(out, next, wide_count(book[APART]));
+    let next = out::next_count(out, next, wide_count(book[SEPARATE]));
+    let next = out::next_count(out, next, wide_count(book[TOUCHING]));
+    let next = out::next_count(out, next, wide_count(book[PENETRATING]));
     out::end(out, next)
 }
 
@@ -178,12 +181,6 @@ fn each_mark(marks: &[u16], out: &mut [u8], at: usize) -> usize {
         i += 1;
     }
     next
-}
-
-fn wide(n: u32) -> usize
-    ensures { λ r. ⌜ r < 4294967296 ⌝ }
-{
-    n as usize
 }
 
 fn wide_byte(n: u8) -> usize {

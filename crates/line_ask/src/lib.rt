@@ -2,3 +2,4 @@
 // Nothing here decides: what is right is said of the functions of the crates below, and here only that all stays in range and ends.
 pub mod asked;
 mod report;
+mod tallies;

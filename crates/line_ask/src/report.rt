@@ -2,6 +2,11 @@
 // It can be fired where no two pieces touch or overlap: glazed pieces that do fuse for good.
 ghost use Prim.Native.Nat.{_≤_};
 use crate::asked::each_row;
+use crate::tallies::APART;
+use crate::tallies::PENETRATING;
+use crate::tallies::SEPARATE;
+use crate::tallies::TOUCHING;
+use crate::tallies::wide_count;
 use line::out;
 
 // The report of a desk in order.
@@ -15,16 +20,21 @@ pub fn report(
     let next = each_row(rows, true, out, at);
     let next = count(out, next, pieces(places), b"pieces: ");
     let next = pairs(book, out, next);
-    let next = fired(book[2], book[3], out, next);
+    let next = fired(book[TOUCHING], book[PENETRATING], out, next);
     out::word(out, next, b"end\n")
 }
 
 // How many pairs have each verdict.
 fn pairs(book: &[u32; limits::BOOK], out: &mut [u8], at: usize) -> usize {
-    let next = count(out, at, wide(book[0]), b"pairs far apart: ");
-    let next = count(out, next, wide(book[1]), b"pairs separate: ");
-    let next = count(out, next, wide(book[2]), b"pairs touching: ");
-    count(out, next, wide(book[3]), b"pairs overlapping: ")
+    let next = count(out, at, wide_count(book[APART]), b"pairs far apart: ");
+    let next = count(out, next, wide_count(book[SEPARATE]), b"pairs separate: ");
+    let next = count(out, next, wide_count(book[TOUCHING]), b"pairs touching: ");
+    count(
+        out,
+        next,
+        wide_count(book[PENETRATING]),
+        b"pairs overlapping: ",
+    )
 }
 
 // A line with a count behind its name.
@@ -36,20 +46,16 @@ fn count(out: &mut [u8], at: usize, n: usize, name: &[u8]) -> usize {
 
 // Whether the shelf can be fired.
 fn fired(touching: u32, overlapping: u32, out: &mut [u8], at: usize) -> usize {
-    let next = out::word(out, at, b"the shelf can");
-    let next = unless(touching == 0 && overlapping == 0, out, next);
+    let next = out::word(out, at, b"the shelf ");
+    let next = can_or_cannot(touching == 0 && overlapping == 0, out, next);
     out::word(out, next, b" be fired\n")
 }
 
-fn unless(fine: bool, out: &mut [u8], at: usize) -> usize {
-    if fine {
-        return at;
+fn can_or_cannot(can: bool, out: &mut [u8], at: usize) -> usize {
+    if can {
+        return out::word(out, at, b"can");
     }
-    out::word(out, at, b"not")
-}
-
-fn wide(n: u32) -> usize {
-    n as usize
+    out::word(out, at, b"cannot")
 }
 
 // How many places hold a piece.
@@ -70,11 +76,11 @@ fn one_if_taken(held: i32) -> usize
 }
 
 // The line of a cell, where its row is a contact.
-pub fn contact(k: usize, v: u8, out: &mut [u8], at: usize) -> usize {
-    if v == 2 {
+pub fn contact(k: usize, v: usize, out: &mut [u8], at: usize) -> usize {
+    if v == TOUCHING {
         return two_places(k, b" touch\n", out, at);
     }
-    if v == 3 {
+    if v == PENETRATING {
         return two_places(k, b" overlap\n", out, at);
     }
     at

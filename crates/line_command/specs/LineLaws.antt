@@ -11,7 +11,7 @@ use lib.ListN.{length, getD, take, drop}
 use lib.Seq.{take-append-seam}
 use Rattle.text_words.specs.Words.{firstWord, wordsOf}
 use Rattle.text_words.specs.ReadLaws.{numbers-once}
-use Rattle.line.specs.Behind.{behind, NumbersIn, Finds, Missing}
+use Rattle.line.specs.Behind.{behind, NumbersIn, Finds, NotIn}
 use Rattle.line.specs.BehindLaws.{words-are, finds-once}
 use Rattle.line.specs.declared.parts.Index.the-variants.{At}
 use Rattle.line_spoil.specs.CellLaws.{cell-once}
@@ -65,7 +65,7 @@ of-line line {first} {end} room exit c ef ee h word ws e =
     subst (λ (w : List ℕ). OfWord w ws room exit c) (ef ∙ a) (subst (λ (l : List (List ℕ)). OfWord first l room exit c) (ap (behind line) ee ∙ b) h)
 
 -- ---- one command
-named-not : (w : List ℕ) (table : List (List ℕ × Line)) (c : Line) → Missing w table → Finds w table (λ _. ⊥) c → ⊥
+named-not : (w : List ℕ) (table : List (List ℕ × Line)) (c : Line) → NotIn w table → Finds w table (λ _. ⊥) c → ⊥
 named-not w [] c m f = f
 named-not w (e ∷ table) c m (inl f) = m .0 (f .0)
 named-not w (e ∷ table) c m (inr f) = named-not w table c (m .1) (f .1)

@@ -9,10 +9,11 @@ use native.Mathlib.Decide.{ℕ-discrete}
 use lib.IntN.{ℤ, pos}
 use lib.ListN.{length, getD}
 use Rattle.text_words.specs.Words.{wordsOf, AreNumbers, filled}
-use Rattle.line.specs.Behind.{Finds, Missing}
+use Rattle.line.specs.Behind.{Finds, NotIn}
 use Rattle.line_spoil.specs.Cells.{CellOf}
 use Rattle.line_spoil.specs.declared.Cell.{Cell}
-use Rattle.line_command.specs.Names.{lengthWord, lineWord, listsWord, scanWord, showWord, blankWord, roomWord, lendWord, spoilWord, loadWord, placeWord, moveWord, removeWord, pairWord, freshWord, contactsWord, rowsWord, talliesWord, marksWord, reportWord}
+use Rattle.line_command.specs.Names.{lengthWord, lineWord, listsWord, scanWord, showWord, blankWord, roomWord, lendWord, spoilWord, loadWord}
+use Rattle.line_command.specs.Names.{placeWord, moveWord, removeWord, pairWord, freshWord, contactsWord, rowsWord, talliesWord, marksWord, reportWord}
 use Rattle.desk.specs.declared.Command.the-variants.{Start, Load, Place, Move, Remove}
 use Rattle.line_command.specs.declared.Line.{Line}
 use Rattle.line_command.specs.declared.Line.the-variants.{Tell, Ask, Spoil, Other}
@@ -97,7 +98,7 @@ OfDesk word behind room exit c =
 abbrev pub OfWord : List ℕ → List (List ℕ) → List ℤ → List ℤ → Line → Type 0
 OfWord word behind room exit c =
     ((exit ≡ room) × Finds word otherWords (λ _. ⊥) c)
-    ⊎ (Missing word otherWords × (((word ≡ spoilWord) × ((cell : Cell) × CellOf behind room cell × (c ≡ Spoil cell))) ⊎ ((word ≡ spoilWord → ⊥) × OfDesk word behind room exit c)))
+    ⊎ (NotIn word otherWords × (((word ≡ spoilWord) × ((cell : Cell) × CellOf behind room cell × (c ≡ Spoil cell))) ⊎ ((word ≡ spoilWord → ⊥) × OfDesk word behind room exit c)))
 
 -- a line of no bytes, and one that begins with `#`, the byte 35, are passed over
 abbrev pub PassedOver : List ℕ → Type 0

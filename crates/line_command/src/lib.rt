@@ -46,6 +46,15 @@ pub enum Other {
     Unknown,
 }
 
+// How many numbers stand behind a word; behind `load` stand any count from one on.
+const PLACE_NUMBERS: usize = 6;
+
+const MOVE_NUMBERS: usize = 5;
+
+const REMOVE_NUMBERS: usize = 1;
+
+const PAIR_NUMBERS: usize = 2;
+
 // What a line says, its numbers in the room's first cells.
 pub fn read(line: &[u8], numbers: &mut [i32]) -> Line
     ensures { λ r. ⌜ CommandOf (now (line .entry)) (now (numbers .entry)) (now (numbers .exit)) r ⌝ }
@@ -140,7 +149,7 @@ fn load_of(numbers: &[i32]) -> Line
 fn place_of(numbers: &[i32]) -> Line
     ensures { λ r. ⌜ r ≡ placeOf (now (numbers .entry)) ⌝ }
 {
-    if numbers.len() != 6 {
+    if numbers.len() != PLACE_NUMBERS {
         return Line::Other(Other::Unknown);
     }
     let q = Placement {
@@ -150,14 +159,14 @@ fn place_of(numbers: &[i32]) -> Line
         y: numbers[4],
         z: numbers[5],
     };
-    Line::Tell(Command::Place(numbers[0], q), 6)
+    Line::Tell(Command::Place(numbers[0], q), PLACE_NUMBERS)
 }
 
 // `move P T x y z`
 fn move_of(numbers: &[i32]) -> Line
     ensures { λ r. ⌜ r ≡ moveOf (now (numbers .entry)) ⌝ }
 {
-    if numbers.len() != 5 {
+    if numbers.len() != MOVE_NUMBERS {
         return Line::Other(Other::Unknown);
     }
     let o = Offset {
@@ -165,24 +174,24 @@ fn move_of(numbers: &[i32]) -> Line
         y: numbers[3],
         z: numbers[4],
     };
-    Line::Tell(Command::Move(numbers[0], numbers[1], o), 5)
+    Line::Tell(Command::Move(numbers[0], numbers[1], o), MOVE_NUMBERS)
 }
 
 // `remove P`
 fn remove_of(numbers: &[i32]) -> Line
     ensures { λ r. ⌜ r ≡ removeOf (now (numbers .entry)) ⌝ }
 {
-    if numbers.len() != 1 {
+    if numbers.len() != REMOVE_NUMBERS {
         return Line::Other(Other::Unknown);
     }
-    Line::Tell(Command::Remove(numbers[0]), 1)
+    Line::Tell(Command::Remove(numbers[0]), REMOVE_NUMBERS)
 }
 
 // `pair P Q`
 fn pair_of(numbers: &[i32]) -> Line
     ensures { λ r. ⌜ r ≡ pairOf (now (numbers .entry)) ⌝ }
 {
-    if numbers.len() != 2 {
+    if numbers.len() != PAIR_NUMBERS {
         return Line::Other(Other::Unknown);
     }
     Line::Ask(Asked::Pair(numbers[0], numbers[1]))

@@ -6,8 +6,9 @@ ghost use lib.Ieee.{binary32, ofBits};
 ghost use lib.ListN.{length};
 use line::lent;
 use line::lent::at_most;
+use line::names::name_of;
 use line::out;
-use line::parts::Ends;
+use line::parts::WordEnds;
 use line::parts::after;
 use line::parts::only_number;
 use line::parts::three_words;
@@ -18,16 +19,19 @@ enum Floats {
     Bad,
 }
 
-// What a `blank` asks.
-enum Asked {
+// What a `blank` names.
+enum BlankRead {
     Blank(blanks::Blank),
     Bad,
 }
 
 // The pattern of the sign alone, and of plus infinity. Without its sign, a pattern above that stands for what is not a number.
-const SIGN: u32 = 2147483648;
+const SIGN: u32 = 0x8000_0000;
 
-const INFINITY: u32 = 2139095040;
+const INFINITY: u32 = 0x7f80_0000;
+
+// The hex digits of a bit pattern.
+const PATTERN_DIGITS: usize = 8;
 
 // `scan h h h`: the steps of a scanned point.
 pub fn scan(line: &[u8], end: usize, out: &mut [u8], at: usize) -> usize {
@@ -46,9 +50,9 @@ fn scanned(s: scans::Scanned, out: &mut [u8], at: usize) -> usize {
     let y = s.y;
     let z = s.z;
     let next = out::word(out, at, b"0");
-    let next = out::next_number(out, next, wide(x));
-    let next = out::next_number(out, next, wide(y));
-    let next = out::next_number(out, next, wide(z));
+    let next = out::next_number(out, next, wide_number(x));
+    let next = out::next_number(out, next, wide_number(y));
+    let next = out::next_number(out, next, wide_number(z));
     out::end(out, next)
 }
 
@@ -67,7 +71,7 @@ fn shown(m: scans::Millimetres, out: &mut [u8], at: usize) -> usize {
     }
     let value = m.value;
     let next = out::word(out, at, b"0 ");
-    let next = out::hex(out, next, scans::pattern(value), 8);
+    let next = out::hex(out, next, scans::pattern(value), PATTERN_DIGITS);
     out::end(out, next)
 }
 
@@ -75,15 +79,15 @@ fn shown(m: scans::Millimetres, out: &mut [u8], at: usize) -> usize {
 pub fn blank(
     line: &[u8],
     end: usize,
-    lent: &[usize; 2],
+    lent: &[usize; lent::COUNTS],
     numbers: &mut [i32],
     out: &mut [u8],
     at: usize,
 ) -> usize {
-    let Asked::Blank(b) = read_blank(line, end) else {
+    let BlankRead::Blank(b) = read_blank(line, end) else {
         return out::wrong(out, at);
     };
-    let room = at_most(lent[lent::ROOM], numbers.len());
+    let room = at_most(lent[lent::ROOM_LENT], numbers.len());
     corners(b, &mut numbers[0..room], out, at)
 }
 
@@ -111,56 +115,52 @@ fn each(numbers: &[i32], out: &mut [u8], at: usize) -> usize {
     let mut next = at;
     let mut i: usize = 0;
     while i < numbers.len() {
-        next = out::next_number(out, next, wide(numbers[i]));
+        next = out::next_number(out, next, wide_number(numbers[i]));
         i += 1;
     }
     next
 }
 
-fn wide(n: i32) -> i64 {
+fn wide_number(n: i32) -> i64 {
     n as i64
 }
 
-fn read_blank(line: &[u8], end: usize) -> Asked {
+fn read_blank(line: &[u8], end: usize) -> BlankRead {
     if line.len() <= end {
-        return Asked::Bad;
+        return BlankRead::Bad;
     }
     let kind = text_words::word_end(line, end + 1);
     let Floats::Three(w, d, h) = read_floats(line, after(line, kind)) else {
-        return Asked::Bad;
+        return BlankRead::Bad;
     };
     of_kind(&line[end + 1..kind], w, d, h)
 }
 
 // The blank of a kind, by its name and sizes.
-fn of_kind(name: &[u8], width: f32, depth: f32, height: f32) -> Asked {
-    if check::same(name, b"box") {
-        return Asked::Blank(blanks::Blank::Box {
+fn of_kind(name: &[u8], width: f32, depth: f32, height: f32) -> BlankRead {
+    match name_of(name, b" box wedge corner") {
+        0 => BlankRead::Blank(blanks::Blank::Box {
             width,
             depth,
             height,
-        });
-    }
-    if check::same(name, b"wedge") {
-        return Asked::Blank(blanks::Blank::Wedge {
+        }),
+        1 => BlankRead::Blank(blanks::Blank::Wedge {
             width,
             depth,
             height,
-        });
-    }
-    if check::same(name, b"corner") {
-        return Asked::Blank(blanks::Blank::Corner {
+        }),
+        2 => BlankRead::Blank(blanks::Blank::Corner {
             width,
             depth,
             height,
-        });
+        }),
+        _ => BlankRead::Bad,
     }
-    Asked::Bad
 }
 
 // The words from a place to the line's end, if they are three bit patterns.
 fn read_floats(line: &[u8], start: usize) -> Floats {
-    let Ends::At(a, b) = three_words(line, start) else {
+    let WordEnds::At(a, b) = three_words(line, start) else {
         return Floats::Bad;
     };
     three_floats(&line[start..a], &line[a + 1..b], &line[b + 1..])

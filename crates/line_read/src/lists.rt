@@ -1,12 +1,12 @@
 // The command on two lent lists of placed corners.
 // `end` is where the command's own word ends.
 ghost use lib.ListN.{length};
-ghost use Rattle.line_read.specs.Held.{Behind};
+ghost use Rattle.line_read.specs.ReadWithin.{ListWithin};
 use line::out;
 use line::parts::Index;
 use line::parts::not_negative;
 use line::parts::numbers_behind;
-use line::verdicts::pair_answer;
+use line_verdict::pair_answer;
 
 // `lists N n .. M n ..`: every word is a number, and each of the two counts is kept.
 pub fn lists(line: &[u8], end: usize, room: &mut [i32], out: &mut [u8], at: usize) -> usize {
@@ -36,7 +36,7 @@ fn both_lists(numbers: &[i32], out: &mut [u8], at: usize) -> usize {
 
 // Where the list ends whose count stands at a place, if as many numbers follow it.
 fn list_end(numbers: &[i32], start: usize) -> Index
-    ensures { λ r. ⌜ Behind start (length (now (numbers .entry))) r ⌝ }
+    ensures { λ r. ⌜ ListWithin start (length (now (numbers .entry))) r ⌝ }
 {
     if numbers.len() <= start {
         return Index::Bad;

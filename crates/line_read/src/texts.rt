@@ -3,19 +3,20 @@
 ghost use mathlib.Core.Path.{_≡_};
 ghost use Prim.Native.Nat.{_≤_, _<_, _+_};
 ghost use lib.ListN.{length};
-ghost use Rattle.line_read.specs.Held.{Kept};
+ghost use Rattle.line_read.specs.ReadWithin.{TextsWithin};
+use line::lent::MOST_BYTES;
 use line::out;
-use line::parts::Ends;
 use line::parts::Index;
+use line::parts::WordEnds;
 use line::parts::after;
 use line::parts::read_index;
 use line::parts::three_words;
 
-// Room for the two texts of a `line`: each takes two digits a byte of a line that is no longer than this.
-pub fn buffer() -> [u8; 16384]
+// Room for the two texts of a `line`: each takes two digits a byte of a line that is no longer.
+pub fn buffer() -> [u8; MOST_BYTES]
     ensures { λ r. ⌜ 16384 ≡ length r ⌝ }
 {
-    [0; 16384]
+    [0; MOST_BYTES]
 }
 
 // `length TEXT`: the bytes after one space, to the line's end. `length` alone is the empty text.
@@ -52,10 +53,10 @@ pub fn line(line: &[u8], end: usize, room: &mut [u8], out: &mut [u8], at: usize)
 }
 
 fn read_request(line: &[u8], end: usize, room: &mut [u8]) -> Request
-    ensures { λ r. ⌜ Kept (length (now (room .entry))) r ⌝ }
+    ensures { λ r. ⌜ TextsWithin (length (now (room .entry))) r ⌝ }
 {
     let start = after(line, end);
-    let Ends::At(a, b) = three_words(line, start) else {
+    let WordEnds::At(a, b) = three_words(line, start) else {
         return Request::Bad;
     };
     let Index::At(k) = read_index(&line[start..a]) else {
@@ -66,7 +67,7 @@ fn read_request(line: &[u8], end: usize, room: &mut [u8]) -> Request
 
 // Puts the two texts into the room, one behind the other.
 fn both_texts(translated: &[u8], english: &[u8], k: usize, room: &mut [u8]) -> Request
-    ensures { λ r. ⌜ Kept (length (now (room .entry))) r ⌝ }
+    ensures { λ r. ⌜ TextsWithin (length (now (room .entry))) r ⌝ }
 {
     let text_hex::Text::Bytes(m) = text_hex::read_text(translated, room) else {
         return Request::Bad;

@@ -9,10 +9,10 @@ use lib.IntN.{ℤ, pos}
 use lib.ListN.{length, getD}
 use Rattle.text_words.specs.Words.{AreNumbers, filled}
 use Rattle.text_words.specs.ReadLaws.{numbers-once}
-use Rattle.line.specs.Behind.{NumbersIn, NotNegative, Finds}
+use Rattle.line.specs.Behind.{NumbersIn, Finds}
 use Rattle.line.specs.BehindLaws.{finds-once}
 use Rattle.line.specs.declared.parts.Index.the-variants.{At, Bad}
-use Rattle.line_spoil.specs.Cells.{parts, NoCell, CellOf}
+use Rattle.line_spoil.specs.Cells.{parts, NoCell, CellAt, CellOf}
 use Rattle.line_spoil.specs.declared.Cell.{Cell}
 use Rattle.line_spoil.specs.declared.Cell.the-variants.{Bad as NoneSuch}
 
@@ -40,7 +40,7 @@ module _ {words : List (List ℕ)} {part : List ℕ} {rest : List (List ℕ)} (e
     first-is : (vs : List ℤ) → h .0 ≡ vs → getD exit 0 (pos 0) ≡ getD (filled vs room) 0 (pos 0)
     first-is vs k = ap (λ (l : List ℤ). getD l 0 (pos 0)) (h .4 ∙ ap (λ (l : List ℤ). filled l room) k)
 
-    pub cell-negative : NotNegative (getD exit 0 (pos 0)) Bad → CellOf words room NoneSuch
+    cell-negative : ((i : ℕ) → getD exit 0 (pos 0) ≡ pos i → ⊥) → CellOf words room NoneSuch
     cell-negative neg = inr (λ p r i v q a f. neg i (first-is (pos i ∷ v ∷ []) (are p r i v q a)), refl)
 
     two : (vs : List ℤ) → length vs ≡ 2 → vs ≡ getD vs 0 (pos 0) ∷ getD vs 1 (pos 0) ∷ []
@@ -49,13 +49,18 @@ module _ {words : List (List ℕ)} {part : List ℕ} {rest : List (List ℕ)} (e
     two (x ∷ y ∷ []) k = refl
     two (x ∷ y ∷ z ∷ vs) k = absurd (omega arith)
 
-    pub cell-found : {i : ℕ} {c : Cell} → n ≡ 2 → NotNegative (getD exit 0 (pos 0)) (At i) → Finds part (parts i (getD exit 1 (pos 0))) NoCell c → CellOf words room c
+    cell-found : {i : ℕ} {c : Cell} → n ≡ 2 → getD exit 0 (pos 0) ≡ pos i → Finds part (parts i (getD exit 1 (pos 0))) NoCell c → CellOf words room c
     cell-found {i} {c} en ei f =
         let w = two (h .0) (sym (h .2) ∙ en) in
         let a0 : getD (h .0) 0 (pos 0) ≡ pos i = sym (first-is _ w) ∙ ei in
         let a1 : getD (h .0) 1 (pos 0) ≡ getD exit 1 (pos 0) = sym (ap (λ (l : List ℤ). getD l 1 (pos 0)) (h .4 ∙ ap (λ (l : List ℤ). filled l room) w)) in
         let vs : h .0 ≡ pos i ∷ getD exit 1 (pos 0) ∷ [] = w ∙ ap (λ (x : ℤ). x ∷ getD (h .0) 1 (pos 0) ∷ []) a0 ∙ ap (λ (x : ℤ). pos i ∷ x ∷ []) a1 in
         inl (part, rest, i, getD exit 1 (pos 0), e, subst (AreNumbers rest) vs (h .1), omega (arith, h .3, en), f)
+
+    -- two numbers give the cell, or none
+    pub cell-two : {c : Cell} → n ≡ 2 → CellAt part (getD exit 0 (pos 0)) (getD exit 1 (pos 0)) c → CellOf words room c
+    cell-two en (inl (i, ei, f)) = cell-found en ei f
+    cell-two en (inr (neg, ec)) = subst (CellOf words room) (sym ec) (cell-negative neg)
 
 no-cell-once : (q r : Cell) → NoCell q → NoCell r → q ≡ r
 no-cell-once q r a b = a ∙ sym b

@@ -44,6 +44,12 @@ parts i v =
 abbrev pub NoCell : Cell → Type 0
 NoCell c = c ≡ Bad
 
+-- the cell that a part's name and two numbers give: its number, which is not negative, and what is put there
+abbrev pub CellAt : List ℕ → ℤ → ℤ → Cell → Type 0
+CellAt part number v c =
+    ((i : ℕ) × (number ≡ pos i) × Finds part (parts i v) NoCell c)
+    ⊎ (((i : ℕ) → number ≡ pos i → ⊥) × (c ≡ Bad))
+
 -- a part's name, and behind it a number that is not negative and another; else there is no cell
 abbrev pub CellOf : List (List ℕ) → List ℤ → Cell → Type 0
 CellOf words room c =

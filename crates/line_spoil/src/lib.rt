@@ -1,7 +1,9 @@
 // `spoil PART I V` puts V into cell I of a lent part as it stands, so that a script can hand in a desk that is not in order.
 // It is no command where there is no such cell or V does not fit it.
+ghost use lib.IntN.{pos};
+ghost use lib.ListN.{getD};
 ghost use Rattle.line.specs.Behind.{behind, Finds};
-ghost use Rattle.line_spoil.specs.Cells.{parts, NoCell, CellOf};
+ghost use Rattle.line_spoil.specs.Cells.{parts, NoCell, CellAt, CellOf};
 use line::names::name_of;
 use line::out;
 use line::parts::Index;
@@ -19,6 +21,13 @@ pub enum Cell {
     Bad,
 }
 
+// The most that a cell holds: of the rows, of the marks, of the book.
+const MOST_BYTE: usize = 255;
+
+const MOST_MARK: usize = 65535;
+
+const MOST_COUNT: usize = 4294967295;
+
 // The part's name and the two numbers behind the command's own word, which ends at `end`.
 pub fn cell_of(line: &[u8], end: usize, numbers: &mut [i32]) -> Cell
     ensures { λ r. ⌜ CellOf (behind (now (line .entry)) end) (now (numbers .entry)) r ⌝ }
@@ -33,10 +42,17 @@ pub fn cell_of(line: &[u8], end: usize, numbers: &mut [i32]) -> Cell
     if n != 2 {
         return Cell::Bad;
     }
+    of_numbers(&line[end + 1..name], numbers)
+}
+
+// The first number is the cell's and the second what is put there; no cell has a number below 0.
+fn of_numbers(word: &[u8], numbers: &[i32]) -> Cell
+    ensures { λ r. ⌜ CellAt (now (word .entry)) (getD (now (numbers .entry)) 0 (pos 0)) (getD (now (numbers .entry)) 1 (pos 0)) r ⌝ }
+{
     let Index::At(i) = not_negative(number_at(numbers, 0)) else {
         return Cell::Bad;
     };
-    of_part(&line[end + 1..name], i, number_at(numbers, 1))
+    of_part(word, i, number_at(numbers, 1))
 }
 
 fn of_part(word: &[u8], i: usize, v: i32) -> Cell
@@ -100,7 +116,7 @@ fn put_byte(cells: &mut [u8], i: usize, v: i32) -> bool {
     if cells.len() <= i {
         return false;
     }
-    if 255 < n {
+    if MOST_BYTE < n {
         return false;
     }
     cells[i] = n as u8;
@@ -114,7 +130,7 @@ fn put_mark(cells: &mut [u16], i: usize, v: i32) -> bool {
     if cells.len() <= i {
         return false;
     }
-    if 65535 < n {
+    if MOST_MARK < n {
         return false;
     }
     cells[i] = n as u16;
@@ -129,7 +145,7 @@ fn put_count(cells: &mut [u32], i: usize, v: i32) -> bool {
     if cells.len() <= i {
         return false;
     }
-    if 4294967295 < n {
+    if MOST_COUNT < n {
         return false;
     }
     cells[i] = n as u32;

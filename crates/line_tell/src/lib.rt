@@ -23,7 +23,9 @@ pub fn fresh(
     book: &mut [u32; limits::BOOK],
     marks: &mut [u16],
 )
-    ensures { λ _. ⌜ Tells Start 0 [] (min Limits.marks (length (now (marks .entry)))) (deskOf (now (shapes .entry)) (now (places .entry)) (now (rows .entry)) (now (book .entry)) (now (marks .entry))) (deskOf (now (shapes .exit)) (now (places .exit)) (now (rows .exit)) (now (book .exit)) (now (marks .exit))) ⌝ }
+    ensures { λ _. ⌜ Tells Start 0 [] (min Limits.marks (length (now (marks .entry))))
+        (deskOf (now (shapes .entry)) (now (places .entry)) (now (rows .entry)) (now (book .entry)) (now (marks .entry)))
+        (deskOf (now (shapes .exit)) (now (places .exit)) (now (rows .exit)) (now (book .exit)) (now (marks .exit))) ⌝ }
 {
     let m = at_most(limits::MARKS, marks.len());
     start(shapes, places, rows, book, &mut marks[0..m]);
@@ -34,7 +36,7 @@ pub fn tell(
     command: Command,
     count: usize,
     numbers: &[i32],
-    lent: &[usize; 2],
+    lent: &[usize; lent::COUNTS],
     shapes: &mut [i32; limits::SHAPES_LENGTH],
     places: &mut [i32; limits::PLACES_LENGTH],
     rows: &mut [u8; limits::ROWS],
@@ -43,9 +45,11 @@ pub fn tell(
     out: &mut [u8],
     at: usize,
 ) -> usize
-    ensures { λ _. ⌜ Tells command count (now (numbers .entry)) (min (getD (now (lent .entry)) 1 0) (length (now (marks .entry)))) (deskOf (now (shapes .entry)) (now (places .entry)) (now (rows .entry)) (now (book .entry)) (now (marks .entry))) (deskOf (now (shapes .exit)) (now (places .exit)) (now (rows .exit)) (now (book .exit)) (now (marks .exit))) ⌝ }
+    ensures { λ _. ⌜ Tells command count (now (numbers .entry)) (min (getD (now (lent .entry)) 1 0) (length (now (marks .entry))))
+        (deskOf (now (shapes .entry)) (now (places .entry)) (now (rows .entry)) (now (book .entry)) (now (marks .entry)))
+        (deskOf (now (shapes .exit)) (now (places .exit)) (now (rows .exit)) (now (book .exit)) (now (marks .exit))) ⌝ }
 {
-    let m = at_most(lent[lent::MARKS], marks.len());
+    let m = at_most(lent[lent::MARKS_LENT], marks.len());
     let corners = behind_first(numbers, count);
     let outcome = desk_tell::tell(
         command,

@@ -8,7 +8,7 @@ use native.Mathlib.Omega.{arith}
 use lib.ListN.{length, drop, replicate, length-drop, length-replicate, take-append-drop}
 use lib.Seq.{drop-drop, take-all}
 use Rattle.limits.specs.Limits
-use Rattle.marks.specs.Marks.{Axes, axisOf, InPlaceMarks, RangedMarks, OthersStay, OthersStayMarks, partX, partY, partZ}
+use Rattle.marks.specs.Marks.{Axes, axisOf, InPlaceMarks, RangedMarks, OthersStayOn, OthersStayMarks, partX, partY, partZ}
 use Rattle.marks.specs.Cells.{one-part, none-in-place}
 
 -- the three parts are the whole
@@ -38,5 +38,5 @@ none-in-place-marks a h = record {
 }
 
 -- on each axis the other places stay
-pub on-axis : (place axis : ℕ) (old new : Axes) → axis < 3 → OthersStayMarks place old new → OthersStay place (axisOf old axis) (axisOf new axis)
+pub on-axis : (place axis : ℕ) (old new : Axes) → axis < 3 → OthersStayMarks place old new → OthersStayOn place (axisOf old axis) (axisOf new axis)
 on-axis place axis old new h o = record { taken = o .taken; low = λ p. o .low axis p h; high = λ p. o .high axis p h }

@@ -11,7 +11,7 @@ use lib.Dec.{eqb, ltb}
 use lib.IntN.{ℤ}
 use lib.ListN.{length, getD, replicate, length-replicate}
 use Rattle.limits.specs.Limits
-use Rattle.marks.specs.Marks.{Axis, placeOf, sideOf, valueOf, isMark, earlier, InPlace, Ranged, OthersStay}
+use Rattle.marks.specs.Marks.{Axis, markPlace, sideOf, markValue, isMark, earlier, InPlace, Ranged, OthersStayOn}
 use Rattle.ints.specs.Counts.{oneIf, countOf, hit, and-false, oneIf≤, count-pos, count-fill, find, find-two, twice}
 use Rattle.ints.specs.Order.{lt-or-ge}
 use Rattle.marks.specs.Keys.{noKey, keyFor, keyAt, Keyed, keyOf}
@@ -114,38 +114,38 @@ none-in-place a h = in-place a (λ m k. absurd (false≢true (sym (none m) ∙ k
 }
   where
     none : (m : ℕ) → isMark a m ≡ false
-    none m = ap (λ (b : Bool). ltb m Limits.axisMarks && b) (h (placeOf m)) ∙ and-false (ltb m Limits.axisMarks)
+    none m = ap (λ (b : Bool). ltb m Limits.axisMarks && b) (h (markPlace m)) ∙ and-false (ltb m Limits.axisMarks)
 
     ranged : Ranged a
     ranged m k = absurd (false≢true (sym (none m) ∙ k))
 
 -- a mark of a place that stays keeps its key
-key-stays : (old new : Axis) (q : ℕ) → old .taken (placeOf q) ≡ new .taken (placeOf q)
-    → (old .taken (placeOf q) ≡ true → (old .low (placeOf q) ≡ new .low (placeOf q)) × (old .high (placeOf q) ≡ new .high (placeOf q))) → keyAt old q ≡ keyAt new q
+key-stays : (old new : Axis) (q : ℕ) → old .taken (markPlace q) ≡ new .taken (markPlace q)
+    → (old .taken (markPlace q) ≡ true → (old .low (markPlace q) ≡ new .low (markPlace q)) × (old .high (markPlace q) ≡ new .high (markPlace q))) → keyAt old q ≡ keyAt new q
 unfolding keyAt
-key-stays old new q t v = each (old .taken (placeOf q)) refl
+key-stays old new q t v = each (old .taken (markPlace q)) refl
   where
     marks-same : isMark old q ≡ isMark new q
     marks-same = ap (λ (b : Bool). ltb q Limits.axisMarks && b) t
 
-    key-same : (old .low (placeOf q) ≡ new .low (placeOf q)) × (old .high (placeOf q) ≡ new .high (placeOf q)) → keyFor (valueOf old q) q ≡ keyFor (valueOf new q) q
-    key-same h = ap (λ (v : ℤ). keyFor v q) (ap (λ (l : ℤ). cond (eqb (sideOf q) 0) l (old .high (placeOf q))) (h .0) ∙ ap (λ (l : ℤ). cond (eqb (sideOf q) 0) (new .low (placeOf q)) l) (h .1))
+    key-same : (old .low (markPlace q) ≡ new .low (markPlace q)) × (old .high (markPlace q) ≡ new .high (markPlace q)) → keyFor (markValue old q) q ≡ keyFor (markValue new q) q
+    key-same h = ap (λ (v : ℤ). keyFor v q) (ap (λ (l : ℤ). cond (eqb (sideOf q) 0) l (old .high (markPlace q))) (h .0) ∙ ap (λ (l : ℤ). cond (eqb (sideOf q) 0) (new .low (markPlace q)) l) (h .1))
 
-    each : (b : Bool) → old .taken (placeOf q) ≡ b → keyAt old q ≡ keyAt new q
-    each true h = ap (λ (b : Bool). cond b (keyFor (valueOf old q) q) noKey) marks-same ∙ ap (λ (k : ℕ). cond (isMark new q) k noKey) (key-same (v h))
+    each : (b : Bool) → old .taken (markPlace q) ≡ b → keyAt old q ≡ keyAt new q
+    each true h = ap (λ (b : Bool). cond b (keyFor (markValue old q) q) noKey) marks-same ∙ ap (λ (k : ℕ). cond (isMark new q) k noKey) (key-same (v h))
     each false h =
         let none : isMark old q ≡ false = ap (λ (b : Bool). ltb q Limits.axisMarks && b) h ∙ and-false (ltb q Limits.axisMarks) in
         at-none old q none ∙ sym (at-none new q (sym marks-same ∙ none))
 
-pub stay : (old new : Axis) (place : ℕ) → OthersStay place old new → (q : ℕ) → (placeOf q ≡ place → ⊥) → keyAt old q ≡ keyAt new q
+pub stay : (old new : Axis) (place : ℕ) → OthersStayOn place old new → (q : ℕ) → (markPlace q ≡ place → ⊥) → keyAt old q ≡ keyAt new q
 stay old new place o q n =
     elim (lt-or-ge q Limits.axisMarks) [
-      | inl l ↦ key-stays old new q (o .taken (placeOf q) (omega arith) n) (λ h. (o .low (placeOf q) (omega arith) n h, o .high (placeOf q) (omega arith) n h))
+      | inl l ↦ key-stays old new q (o .taken (markPlace q) (omega arith) n) (λ h. (o .low (markPlace q) (omega arith) n h, o .high (markPlace q) (omega arith) n h))
       | inr l ↦ at-none old q (no-mark old q l) ∙ sym (at-none new q (no-mark new q l))
     ]
 
 -- a place, a move or a removal keeps the part in place
-pub stays-in-place : (old new : Axis) (keys : List ℕ) (place : ℕ) (xs : List ℕ) → place < Limits.places → Ranged old → Keyed new keys → OthersStay place old new → InPlace old xs
+pub stays-in-place : (old new : Axis) (keys : List ℕ) (place : ℕ) (xs : List ℕ) → place < Limits.places → Ranged old → Keyed new keys → OthersStayOn place old new → InPlace old xs
     → InPlace new (reordered (keyOf keys) place xs)
 stays-in-place old new keys place xs l ro k o p =
     subst (λ (e : ℕ → ℕ). InPlace new (reordered e place xs)) (sym (keys-are new keys k))

@@ -9,7 +9,7 @@ use borrow.Author.Tests.{eq-eqb, lt-ltb}
 use lib.Dec.{eqb, ltb}
 use lib.ListN.{getD}
 use Rattle.limits.specs.Limits
-use Rattle.marks.specs.Marks.{Axis, Axes, axisOf, placeOf, lowMark, highMark, isMark, earlier, crossed, isOther, changed, changedMarks, OthersStay}
+use Rattle.marks.specs.Marks.{Axis, Axes, axisOf, markPlace, lowMark, highMark, isMark, earlier, crossed, isOther, changed, changedMarks, OthersStayOn}
 use Rattle.ints.specs.Counts.{oneIf, sumTo, and-false, oneIf≤, sum-same, sum-four}
 use Rattle.marks.specs.Keys.{noKey, keyAt, Keyed}
 use Rattle.marks.specs.Sorted.{notOf}
@@ -38,7 +38,7 @@ crossed≤ old new place other =
     (xor (ltb (getD old (highMark place) 0) (getD old other 0)) (ltb (getD new (highMark place) 0) (getD new other 0)))
 
 -- of a sum in which the own two marks count 0 and every other at most 2
-four : (f : ℕ → ℕ) (place : ℕ) → place < Limits.places → ((q : ℕ) → placeOf q ≡ place → f q ≡ 0) → ((q : ℕ) → f q ≤ 2) → sumTo Limits.axisMarks f ≤ 4 * (Limits.places - 1)
+four : (f : ℕ → ℕ) (place : ℕ) → place < Limits.places → ((q : ℕ) → markPlace q ≡ place → f q ≡ 0) → ((q : ℕ) → f q ≤ 2) → sumTo Limits.axisMarks f ≤ 4 * (Limits.places - 1)
 four f place l own each =
     omega (
       arith,
@@ -50,9 +50,9 @@ pub changedKeys≤ : (old new : List ℕ) (place : ℕ) → place < Limits.place
 unfolding changedKeys
 changedKeys≤ old new place l = four (crossedAt old new place) place l own (crossed≤ old new place)
   where
-    own : (q : ℕ) → placeOf q ≡ place → crossedAt old new place q ≡ 0
+    own : (q : ℕ) → markPlace q ≡ place → crossedAt old new place q ≡ 0
     own q e =
-        ap (λ (b : Bool). cond (ltb (getD old q 0) noKey && not b) (crossedKeys old new (lowMark place) q + crossedKeys old new (highMark place) q) 0) (eq-eqb (placeOf q) place e)
+        ap (λ (b : Bool). cond (ltb (getD old q 0) noKey && not b) (crossedKeys old new (lowMark place) q + crossedKeys old new (highMark place) q) 0) (eq-eqb (markPlace q) place e)
         ∙ ap (λ (b : Bool). cond b (crossedKeys old new (lowMark place) q + crossedKeys old new (highMark place) q) 0) (and-false (ltb (getD old q 0) noKey))
 
 -- at most 252 an axis, 756 in all
@@ -60,9 +60,9 @@ pub changed≤ : (old new : Axis) (place : ℕ) → place < Limits.places → ch
 unfolding changed
 changed≤ old new place l = four (λ other. cond (isOther old place other) (crossed old new (lowMark place) other + crossed old new (highMark place) other) 0) place l own each
   where
-    own : (q : ℕ) → placeOf q ≡ place → cond (isOther old place q) (crossed old new (lowMark place) q + crossed old new (highMark place) q) 0 ≡ 0
+    own : (q : ℕ) → markPlace q ≡ place → cond (isOther old place q) (crossed old new (lowMark place) q + crossed old new (highMark place) q) 0 ≡ 0
     own q e =
-        ap (λ (b : Bool). cond (isMark old q && not b) (crossed old new (lowMark place) q + crossed old new (highMark place) q) 0) (eq-eqb (placeOf q) place e)
+        ap (λ (b : Bool). cond (isMark old q && not b) (crossed old new (lowMark place) q + crossed old new (highMark place) q) 0) (eq-eqb (markPlace q) place e)
         ∙ ap (λ (b : Bool). cond b (crossed old new (lowMark place) q + crossed old new (highMark place) q) 0) (and-false (isMark old q))
 
     each : (q : ℕ) → cond (isOther old place q) (crossed old new (lowMark place) q + crossed old new (highMark place) q) 0 ≤ 2
@@ -72,15 +72,16 @@ pub changedMarks≤ : (old new : Axes) (place : ℕ) → place < Limits.places �
 changedMarks≤ old new place l = omega (arith, changed≤ (axisOf old 0) (axisOf new 0) place l, changed≤ (axisOf old 1) (axisOf new 1) place l, changed≤ (axisOf old 2) (axisOf new 2) place l)
 
 -- the keys of the axis before and after the move give the true count
-module _ (old new : Axis) (ko kn : List ℕ) (place : ℕ) (l : place < Limits.places) (o : Keyed old ko) (n : Keyed new kn) (stay : OthersStay place old new) (was : old .taken place ≡ true) (is : new .taken place ≡ true) where
-  mine : (a : Axis) → a .taken place ≡ true → (m : ℕ) → m < Limits.axisMarks → placeOf m ≡ place → isMark a m ≡ true
-  mine a h m b e = ap (λ (c : Bool). c && a .taken (placeOf m)) (lt-ltb m Limits.axisMarks b) ∙ ap (a .taken) e ∙ h
+module _ (old new : Axis) (ko kn : List ℕ) (place : ℕ) (l : place < Limits.places) (o : Keyed old ko) (n : Keyed new kn)
+    (stay : OthersStayOn place old new) (was : old .taken place ≡ true) (is : new .taken place ≡ true) where
+  mine : (a : Axis) → a .taken place ≡ true → (m : ℕ) → m < Limits.axisMarks → markPlace m ≡ place → isMark a m ≡ true
+  mine a h m b e = ap (λ (c : Bool). c && a .taken (markPlace m)) (lt-ltb m Limits.axisMarks b) ∙ ap (a .taken) e ∙ h
 
   order-is : (a : Axis) (k : List ℕ) → Keyed a k → (m q : ℕ) → isMark a m ≡ true → isMark a q ≡ true → ltb (getD k m 0) (getD k q 0) ≡ earlier a m q
   order-is a k h m q hm hq =
       ap (λ (z : ℕ). ltb z (getD k q 0)) (h .is m (mark-low a m hm .0)) ∙ ap (λ (z : ℕ). ltb (keyAt a m) z) (h .is q (mark-low a q hq .0)) ∙ sym (key-decides a (h .ranged) m q hm hq)
 
-  pair : (m q : ℕ) → m < Limits.axisMarks → placeOf m ≡ place → isMark old q ≡ true → isMark new q ≡ true → crossedKeys ko kn m q ≡ crossed old new m q
+  pair : (m q : ℕ) → m < Limits.axisMarks → markPlace m ≡ place → isMark old q ≡ true → isMark new q ≡ true → crossedKeys ko kn m q ≡ crossed old new m q
   pair m q b e ho hn =
       ap (λ (c : Bool). oneIf (xor c (ltb (getD kn m 0) (getD kn q 0)))) (order-is old ko o m q (mine old was m b e) ho)
       ∙ ap (λ (c : Bool). oneIf (xor (earlier old m q) c)) (order-is new kn n m q (mine new is m b e) hn)
@@ -91,16 +92,16 @@ module _ (old new : Axis) (ko kn : List ℕ) (place : ℕ) (l : place < Limits.p
   each : (q : ℕ) → q < Limits.axisMarks → crossedAt ko kn place q ≡ cond (isOther old place q) (crossed old new (lowMark place) q + crossed old new (highMark place) q) 0
   each q b =
       ap (λ (c : Bool). cond (c && notOf place q) (crossedKeys ko kn (lowMark place) q + crossedKeys ko kn (highMark place) q) 0) (marked q b)
-      ∙ other (isMark old q) (eqb (placeOf q) place) refl refl
+      ∙ other (isMark old q) (eqb (markPlace q) place) refl refl
     where
-      other : (c d : Bool) → isMark old q ≡ c → eqb (placeOf q) place ≡ d
+      other : (c d : Bool) → isMark old q ≡ c → eqb (markPlace q) place ≡ d
           → cond (isMark old q && notOf place q) (crossedKeys ko kn (lowMark place) q + crossedKeys ko kn (highMark place) q) 0 ≡ cond (isMark old q && notOf place q)
           (crossed old new (lowMark place) q + crossed old new (highMark place) q) 0
       other false d hc hd = simp hc
       other true true hc hd = simp (hc, hd)
       other true false hc hd =
-          let away : placeOf q ≡ place → ⊥ = λ k. apart (sym (eq-eqb (placeOf q) place k) ∙ hd) in
-          let hn : isMark new q ≡ true = ap (λ (t : Bool). ltb q Limits.axisMarks && t) (sym (stay .taken (placeOf q) (omega arith) away)) ∙ hc in
+          let away : markPlace q ≡ place → ⊥ = λ k. apart (sym (eq-eqb (markPlace q) place k) ∙ hd) in
+          let hn : isMark new q ≡ true = ap (λ (t : Bool). ltb q Limits.axisMarks && t) (sym (stay .taken (markPlace q) (omega arith) away)) ∙ hc in
           ap (λ (z : ℕ). cond (isMark old q && notOf place q) (z + crossedKeys ko kn (highMark place) q) 0) (pair (lowMark place) q (omega arith) (omega arith) hc hn)
           ∙ ap (λ (z : ℕ). cond (isMark old q && notOf place q) (crossed old new (lowMark place) q + z) 0) (pair (highMark place) q (omega arith) (omega arith) hc hn)
         where

@@ -8,7 +8,7 @@ use lib.Dec.{ltb}
 use lib.IntN.{ℤ, pos, natAbs, _+ℤ_}
 use lib.ListN.{getD}
 use Rattle.limits.specs.Limits
-use Rattle.marks.specs.Marks.{Axis, Axes, axisOf, placeOf, sideOf, valueOf, isMark, Ranged}
+use Rattle.marks.specs.Marks.{Axis, Axes, axisOf, markPlace, sideOf, markValue, isMark, Ranged}
 
 abbrev pub noKey : ℕ
 noKey = 4294967295
@@ -18,10 +18,10 @@ abbrev pub raised : ℤ → ℕ
 raised value = natAbs (value +ℤ pos Limits.placedReach)
 
 abbrev pub keyFor : ℤ → ℕ → ℕ
-keyFor value mark = (raised value * 2 + sideOf mark) * Limits.places + placeOf mark
+keyFor value mark = (raised value * 2 + sideOf mark) * Limits.places + markPlace mark
 
 unfoldable pub keyAt : Axis → ℕ → ℕ
-keyAt a mark = cond (isMark a mark) (keyFor (valueOf a mark) mark) noKey
+keyAt a mark = cond (isMark a mark) (keyFor (markValue a mark) mark) noKey
 
 -- a list of keys, one for each number that a mark can be, is the axis's
 pub record Keyed (a : Axis) (keys : List ℕ) : Type 0 where

@@ -26,26 +26,26 @@ lowMark place = 2 * place
 abbrev pub highMark : ℕ → ℕ
 highMark place = 2 * place + 1
 
-abbrev pub placeOf : ℕ → ℕ
-placeOf mark = mark / 2
+abbrev pub markPlace : ℕ → ℕ
+markPlace mark = mark / 2
 
 -- 0 for low, 1 for high
 abbrev pub sideOf : ℕ → ℕ
 sideOf mark = mark % 2
 
-abbrev pub valueOf : Axis → ℕ → ℤ
-valueOf a mark = cond (eqb (sideOf mark) 0) (a .low (placeOf mark)) (a .high (placeOf mark))
+abbrev pub markValue : Axis → ℕ → ℤ
+markValue a mark = cond (eqb (sideOf mark) 0) (a .low (markPlace mark)) (a .high (markPlace mark))
 
 -- a mark of a taken place
 abbrev pub isMark : Axis → ℕ → Bool
-isMark a mark = ltb mark Limits.axisMarks && a .taken (placeOf mark)
+isMark a mark = ltb mark Limits.axisMarks && a .taken (markPlace mark)
 
 -- "Marks are ordered by value, then low before high, then smaller place number."
 unfoldable pub earlier : Axis → ℕ → ℕ → Bool
 earlier a m n =
-    cond (ltZ (valueOf a m) (valueOf a n)) true (cond (ltZ (valueOf a n) (valueOf a m)) false
+    cond (ltZ (markValue a m) (markValue a n)) true (cond (ltZ (markValue a n) (markValue a m)) false
     (cond (ltb (sideOf m) (sideOf n)) true (cond (ltb (sideOf n) (sideOf m)) false
-    (ltb (placeOf m) (placeOf n)))))
+    (ltb (markPlace m) (markPlace n)))))
 
 -- "the marks are exactly those of the taken places in order with the right tail": one axis's part, cell by cell
 pub record InPlace (a : Axis) (part : List ℕ) : Type 0 where
@@ -81,7 +81,7 @@ pub record InPlaceMarks (a : Axes) (marks : List ℕ) : Type 0 where
 
 -- the placed corners of all taken places are in range
 abbrev pub Ranged : Axis → Type 0
-Ranged a = (mark : ℕ) → isMark a mark ≡ true → Within Limits.placedReach (valueOf a mark)
+Ranged a = (mark : ℕ) → isMark a mark ≡ true → Within Limits.placedReach (markValue a mark)
 
 abbrev pub RangedMarks : Axes → Type 0
 RangedMarks a = (axis : ℕ) → axis < 3 → Ranged (axisOf a axis)
@@ -93,7 +93,7 @@ pub record Agree (a b : Axis) : Type 0 where
   pub high : (p : ℕ) → p < Limits.places → a .taken p ≡ true → a .high p ≡ b .high p
 
 -- one place is handled and every other stays: what a place, a move and a removal have in common
-pub record OthersStay (place : ℕ) (old new : Axis) : Type 0 where
+pub record OthersStayOn (place : ℕ) (old new : Axis) : Type 0 where
   pub taken : (p : ℕ) → p < Limits.places → (p ≡ place → ⊥) → old .taken p ≡ new .taken p
   pub low : (p : ℕ) → p < Limits.places → (p ≡ place → ⊥) → old .taken p ≡ true → old .low p ≡ new .low p
   pub high : (p : ℕ) → p < Limits.places → (p ≡ place → ⊥) → old .taken p ≡ true → old .high p ≡ new .high p
@@ -108,7 +108,7 @@ abbrev pub crossed : Axis → Axis → ℕ → ℕ → ℕ
 crossed old new own other = oneIf (xor (earlier old own other) (earlier new own other))
 
 abbrev pub isOther : Axis → ℕ → ℕ → Bool
-isOther a place mark = isMark a mark && not (eqb (placeOf mark) place)
+isOther a place mark = isMark a mark && not (eqb (markPlace mark) place)
 
 unfoldable pub changed : Axis → Axis → ℕ → ℕ
 changed old new place = sumTo Limits.axisMarks (λ other. cond (isOther old place other) (crossed old new (lowMark place) other + crossed old new (highMark place) other) 0)

@@ -14,7 +14,7 @@ use lib.Signed.{ltZ, nonNeg, _≤ℤ_, _<ℤ_, ≤ℤ-refl, clashℤ}
 use Rattle.limits.specs.Limits
 use Rattle.ints.specs.Bounds.{Within, natAbs-add}
 use Rattle.ints.specs.Order.{subℕ-ge, trichotomy, lt→≤ℤ, lt-or-ge}
-use Rattle.marks.specs.Marks.{Axis, placeOf, sideOf, valueOf, isMark, earlier, Ranged}
+use Rattle.marks.specs.Marks.{Axis, markPlace, sideOf, markValue, isMark, earlier, Ranged}
 use Rattle.marks.specs.Keys.{noKey, raised, keyFor, keyAt, Keyed, keyOf}
 use Rattle.ints.specs.Counts.{and-true}
 use Rattle.marks.specs.Sorted.{Fine, keyed}
@@ -78,21 +78,21 @@ key-own v w m n lm ln k =
 
 -- value, then low before high, then smaller place: the smaller key
 decides : (v w : ℤ) (m n : ℕ) → Within Limits.placedReach v → Within Limits.placedReach w → m < Limits.axisMarks → n < Limits.axisMarks
-    → cond (ltZ v w) true (cond (ltZ w v) false (cond (ltb (sideOf m) (sideOf n)) true (cond (ltb (sideOf n) (sideOf m)) false (ltb (placeOf m) (placeOf n))))) ≡ ltb (keyFor v m) (keyFor w n)
+    → cond (ltZ v w) true (cond (ltZ w v) false (cond (ltb (sideOf m) (sideOf n)) true (cond (ltb (sideOf n) (sideOf m)) false (ltb (markPlace m) (markPlace n))))) ≡ ltb (keyFor v m) (keyFor w n)
 decides v w m n hv hw lm ln =
     elim (trichotomy v w) [
       | inl l ↦ simp (ltZ-is l) (sym (lt-ltb (keyFor v m) (keyFor w n) (omega (arith, raised-lt v w hv hw l))))
       | inr (inr l) ↦ simp (ltZ-not (lt→≤ℤ l), ltZ-is l) (sym (le-ltb (keyFor v m) (keyFor w n) (omega (arith, raised-lt w v hw hv l))))
       | inr (inl e) ↦
           let r : raised v ≡ raised w = ap raised e in
-          ap (λ (b : Bool). cond b true (cond (ltZ w v) false (cond (ltb (sideOf m) (sideOf n)) true (cond (ltb (sideOf n) (sideOf m)) false (ltb (placeOf m) (placeOf n))))))
+          ap (λ (b : Bool). cond b true (cond (ltZ w v) false (cond (ltb (sideOf m) (sideOf n)) true (cond (ltb (sideOf n) (sideOf m)) false (ltb (markPlace m) (markPlace n))))))
           (ltZ-not (subst (λ (z : ℤ). z ≤ℤ v) e (≤ℤ-refl v)))
-          ∙ ap (λ (b : Bool). cond b false (cond (ltb (sideOf m) (sideOf n)) true (cond (ltb (sideOf n) (sideOf m)) false (ltb (placeOf m) (placeOf n)))))
+          ∙ ap (λ (b : Bool). cond b false (cond (ltb (sideOf m) (sideOf n)) true (cond (ltb (sideOf n) (sideOf m)) false (ltb (markPlace m) (markPlace n)))))
           (ltZ-not (subst (λ (z : ℤ). v ≤ℤ z) e (≤ℤ-refl v)))
           ∙ tie r
     ]
   where
-    tie : raised v ≡ raised w → cond (ltb (sideOf m) (sideOf n)) true (cond (ltb (sideOf n) (sideOf m)) false (ltb (placeOf m) (placeOf n))) ≡ ltb (keyFor v m) (keyFor w n)
+    tie : raised v ≡ raised w → cond (ltb (sideOf m) (sideOf n)) true (cond (ltb (sideOf n) (sideOf m)) false (ltb (markPlace m) (markPlace n))) ≡ ltb (keyFor v m) (keyFor w n)
     tie r =
         elim (lt-or-ge (sideOf m) (sideOf n)) [
           | inl l ↦ simp (lt-ltb (sideOf m) (sideOf n) l) (sym (lt-ltb (keyFor v m) (keyFor w n) (omega arith)))
@@ -100,29 +100,29 @@ decides v w m n hv hw lm ln =
               elim (lt-or-ge (sideOf n) (sideOf m)) [
                 | inl k ↦ simp (le-ltb (sideOf m) (sideOf n) l, lt-ltb (sideOf n) (sideOf m) k) (sym (le-ltb (keyFor v m) (keyFor w n) (omega arith)))
                 | inr k ↦
-                    ap (λ (b : Bool). cond b true (cond (ltb (sideOf n) (sideOf m)) false (ltb (placeOf m) (placeOf n)))) (le-ltb (sideOf m) (sideOf n) l)
-                    ∙ ap (λ (b : Bool). cond b false (ltb (placeOf m) (placeOf n))) (le-ltb (sideOf n) (sideOf m) k)
-                    ∙ elim (lt-or-ge (placeOf m) (placeOf n)) [
-                      | inl p ↦ lt-ltb (placeOf m) (placeOf n) p ∙ sym (lt-ltb (keyFor v m) (keyFor w n) (omega arith))
-                      | inr p ↦ le-ltb (placeOf m) (placeOf n) p ∙ sym (le-ltb (keyFor v m) (keyFor w n) (omega arith))
+                    ap (λ (b : Bool). cond b true (cond (ltb (sideOf n) (sideOf m)) false (ltb (markPlace m) (markPlace n)))) (le-ltb (sideOf m) (sideOf n) l)
+                    ∙ ap (λ (b : Bool). cond b false (ltb (markPlace m) (markPlace n))) (le-ltb (sideOf n) (sideOf m) k)
+                    ∙ elim (lt-or-ge (markPlace m) (markPlace n)) [
+                      | inl p ↦ lt-ltb (markPlace m) (markPlace n) p ∙ sym (lt-ltb (keyFor v m) (keyFor w n) (omega arith))
+                      | inr p ↦ le-ltb (markPlace m) (markPlace n) p ∙ sym (le-ltb (keyFor v m) (keyFor w n) (omega arith))
                     ]
               ]
         ]
 
 -- an axis's keys
-pub mark-low : (a : Axis) (m : ℕ) → isMark a m ≡ true → (m < Limits.axisMarks) × (a .taken (placeOf m) ≡ true)
-mark-low a m h = let p = and-true (ltb m Limits.axisMarks) (a .taken (placeOf m)) h in (ltb-true m Limits.axisMarks (p .0), p .1)
+pub mark-low : (a : Axis) (m : ℕ) → isMark a m ≡ true → (m < Limits.axisMarks) × (a .taken (markPlace m) ≡ true)
+mark-low a m h = let p = and-true (ltb m Limits.axisMarks) (a .taken (markPlace m)) h in (ltb-true m Limits.axisMarks (p .0), p .1)
 
 pub no-mark : (a : Axis) (m : ℕ) → Limits.axisMarks ≤ m → isMark a m ≡ false
-no-mark a m h = ap (λ (b : Bool). b && a .taken (placeOf m)) (le-ltb m Limits.axisMarks h)
+no-mark a m h = ap (λ (b : Bool). b && a .taken (markPlace m)) (le-ltb m Limits.axisMarks h)
 
-pub at-mark : (a : Axis) (m : ℕ) → isMark a m ≡ true → keyAt a m ≡ keyFor (valueOf a m) m
+pub at-mark : (a : Axis) (m : ℕ) → isMark a m ≡ true → keyAt a m ≡ keyFor (markValue a m) m
 unfolding keyAt
-at-mark a m h = ap (λ (b : Bool). cond b (keyFor (valueOf a m) m) noKey) h
+at-mark a m h = ap (λ (b : Bool). cond b (keyFor (markValue a m) m) noKey) h
 
 pub at-none : (a : Axis) (m : ℕ) → isMark a m ≡ false → keyAt a m ≡ noKey
 unfolding keyAt
-at-none a m h = ap (λ (b : Bool). cond b (keyFor (valueOf a m) m) noKey) h
+at-none a m h = ap (λ (b : Bool). cond b (keyFor (markValue a m) m) noKey) h
 
 module _ (a : Axis) (r : Ranged a) where
   pub small-at : (m : ℕ) → isMark a m ≡ true → keyAt a m < noKey
@@ -152,14 +152,14 @@ module _ (a : Axis) (r : Ranged a) where
       own m n l e =
           let hm = marked m l in
           let hn = marked n (omega arith) in
-          key-own (valueOf a m) (valueOf a n) m n (mark-low a m hm .0) (mark-low a n hn .0) (sym (at-mark a m hm) ∙ e ∙ at-mark a n hn)
+          key-own (markValue a m) (markValue a n) m n (mark-low a m hm .0) (mark-low a n hn .0) (sym (at-mark a m hm) ∙ e ∙ at-mark a n hn)
 
   -- of two marks the earlier has the smaller key
   pub key-decides : (m n : ℕ) → isMark a m ≡ true → isMark a n ≡ true → earlier a m n ≡ ltb (keyAt a m) (keyAt a n)
   unfolding earlier
   key-decides m n hm hn =
-      decides (valueOf a m) (valueOf a n) m n (r m hm) (r n hn) (mark-low a m hm .0) (mark-low a n hn .0)
-      ∙ sym (ap (λ (k : ℕ). ltb k (keyAt a n)) (at-mark a m hm) ∙ ap (λ (k : ℕ). ltb (keyFor (valueOf a m) m) k) (at-mark a n hn))
+      decides (markValue a m) (markValue a n) m n (r m hm) (r n hn) (mark-low a m hm .0) (mark-low a n hn .0)
+      ∙ sym (ap (λ (k : ℕ). ltb k (keyAt a n)) (at-mark a m hm) ∙ ap (λ (k : ℕ). ltb (keyFor (markValue a m) m) k) (at-mark a n hn))
 
 -- a list of keys that is the axis's
 pub keys-are : (a : Axis) (keys : List ℕ) → Keyed a keys → keyOf keys ≡ keyAt a

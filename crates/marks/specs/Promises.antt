@@ -5,7 +5,7 @@ use mathlib.Core.List.{List, _++_}
 use mathlib.Core.Bool.{true}
 use Prim.Native.Nat.{ℕ, _+_, _-_, _*_, _≤_}
 use Rattle.limits.specs.Limits
-use Rattle.marks.specs.Marks.{Axis, Axes, InPlace, InPlaceMarks, partX, partY, partZ, Ranged, RangedMarks, OthersStay, OthersStayMarks, changed, changedMarks}
+use Rattle.marks.specs.Marks.{Axis, Axes, InPlace, InPlaceMarks, partX, partY, partZ, Ranged, RangedMarks, OthersStayOn, OthersStayMarks, changed, changedMarks}
 use Rattle.marks.specs.Keys.{Keyed, KeyedMarks, keyOf}
 use Rattle.marks.specs.Sorted.{reordered}
 use Rattle.marks.specs.Changed.{changedKeys}
@@ -13,7 +13,7 @@ use Rattle.marks.specs.Changed.{changedKeys}
 -- the marks of a place go out, and in again by their new keys if it is taken: a place, a move and a removal keep the part, and the buffer, in place
 pub record Reordered (keys : List ℕ) (place : ℕ) (before after : List ℕ) : Type 0 where
   pub is : after ≡ reordered (keyOf keys) place before
-  pub stays : (old new : Axis) → Ranged old → Keyed new keys → OthersStay place old new → InPlace old before → InPlace new after
+  pub stays : (old new : Axis) → Ranged old → Keyed new keys → OthersStayOn place old new → InPlace old before → InPlace new after
 
 pub record ReorderedMarks (x y z : List ℕ) (place : ℕ) (before after : List ℕ) : Type 0 where
   pub is : after ≡ reordered (keyOf x) place (partX before) ++ (reordered (keyOf y) place (partY before) ++ reordered (keyOf z) place (partZ before))
@@ -23,7 +23,7 @@ pub record ReorderedMarks (x y z : List ℕ) (place : ℕ) (before after : List 
 pub record Counted (old new : List ℕ) (place count : ℕ) : Type 0 where
   pub is : count ≡ changedKeys old new place
   pub most : count ≤ 4 * (Limits.places - 1)
-  pub true-count : (a b : Axis) → Keyed a old → Keyed b new → OthersStay place a b → a .taken place ≡ true → b .taken place ≡ true → count ≡ changed a b place
+  pub true-count : (a b : Axis) → Keyed a old → Keyed b new → OthersStayOn place a b → a .taken place ≡ true → b .taken place ≡ true → count ≡ changed a b place
 
 pub record CountedMarks (ox oy oz nx ny nz : List ℕ) (place count : ℕ) : Type 0 where
   pub is : count ≡ changedKeys ox nx place + changedKeys oy ny place + changedKeys oz nz place

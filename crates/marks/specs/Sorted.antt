@@ -10,7 +10,7 @@ use borrow.Author.Tests.{eq-eqb, ne-eqb, lt-ltb, le-ltb, ltb-true}
 use lib.Dec.{eqb, ltb}
 use lib.ListN.{length, replicate, length-append, length-replicate}
 use Rattle.limits.specs.Limits
-use Rattle.marks.specs.Marks.{placeOf, lowMark, highMark}
+use Rattle.marks.specs.Marks.{markPlace, lowMark, highMark}
 use Rattle.ints.specs.Counts.{oneIf, sumTo, countOf, hit, hit-self, and-true, and-false, oneIf≤, oneIf-true, count-append, count-fill, sum-same, sum-count, sum-miss}
 use Rattle.ints.specs.Order.{lt-or-ge}
 use Rattle.marks.specs.Keys.{noKey}
@@ -108,7 +108,7 @@ only e xs ys f s t = same e xs ys 0 0 (s .rising) (t .rising) counts one
 
 -- the marks of a place go out
 abbrev pub notOf : ℕ → ℕ → Bool
-notOf place q = not (eqb (placeOf q) place)
+notOf place q = not (eqb (markPlace q) place)
 
 unfoldable pub cleared : ℕ → List ℕ → List ℕ
 cleared place xs = keep (notOf place) xs ++ replicate (length xs - length (keep (notOf place) xs)) Limits.noMark
@@ -206,7 +206,7 @@ module _ (e : ℕ → ℕ) (mine : ℕ → Bool) (xs : List ℕ) (c : ℕ) (f : 
 unfoldable pub reordered : (ℕ → ℕ) → ℕ → List ℕ → List ℕ
 reordered e place xs = pass e (highMark place) (pass e (lowMark place) (cleared place xs))
 
-module _ (e e′ : ℕ → ℕ) (xs : List ℕ) (place : ℕ) (l : place < Limits.places) (f : Fine e) (f′ : Fine e′) (stay : (q : ℕ) → (placeOf q ≡ place → ⊥) → e q ≡ e′ q) (s : Sorted e (keyed e) xs) where
+module _ (e e′ : ℕ → ℕ) (xs : List ℕ) (place : ℕ) (l : place < Limits.places) (f : Fine e) (f′ : Fine e′) (stay : (q : ℕ) → (markPlace q ≡ place → ⊥) → e q ≡ e′ q) (s : Sorted e (keyed e) xs) where
   abbrev mine₁ : ℕ → Bool
   mine₁ q = keyed e q && notOf place q
 
@@ -216,11 +216,11 @@ module _ (e e′ : ℕ → ℕ) (xs : List ℕ) (place : ℕ) (l : place < Limit
   abbrev mine₃ : ℕ → Bool
   mine₃ q = mine₂ q || (eqb q (highMark place) && keyed e′ (highMark place))
 
-  other : (q : ℕ) → mine₁ q ≡ true → (keyed e q ≡ true) × (placeOf q ≡ place → ⊥)
-  other q h = let p = and-true (keyed e q) (notOf place q) h in (p .0, λ k. false≢true (sym (ap not (eq-eqb (placeOf q) place k)) ∙ p .1))
+  other : (q : ℕ) → mine₁ q ≡ true → (keyed e q ≡ true) × (markPlace q ≡ place → ⊥)
+  other q h = let p = and-true (keyed e q) (notOf place q) h in (p .0, λ k. false≢true (sym (ap not (eq-eqb (markPlace q) place k)) ∙ p .1))
 
-  own : (q : ℕ) → placeOf q ≡ place → mine₁ q ≡ false
-  own q k = ap (λ (b : Bool). keyed e q && not b) (eq-eqb (placeOf q) place k) ∙ and-false (keyed e q)
+  own : (q : ℕ) → markPlace q ≡ place → mine₁ q ≡ false
+  own q k = ap (λ (b : Bool). keyed e q && not b) (eq-eqb (markPlace q) place k) ∙ and-false (keyed e q)
 
   small₁ : (q : ℕ) → mine₁ q ≡ true → e′ q < noKey
   small₁ q h = let p = other q h in omega (arith, ltb-true (e q) noKey (p .0), stay q (p .1))
@@ -254,10 +254,10 @@ module _ (e e′ : ℕ → ℕ) (xs : List ℕ) (place : ℕ) (l : place < Limit
   -- what is mine in the end is what the new keys say
   in-the-end : (q : ℕ) → mine₃ q ≡ keyed e′ q
   in-the-end q =
-      elim (hit (placeOf q) place) [
+      elim (hit (markPlace q) place) [
         | inr n ↦
             ap (λ (b : Bool). (((keyed e q && not b) || (eqb q (lowMark place) && keyed e′ (lowMark place))) || (eqb q (highMark place) && keyed e′ (highMark place))))
-            (ne-eqb (placeOf q) place (n .0))
+            (ne-eqb (markPlace q) place (n .0))
             ∙ ap (λ (b : Bool). (((keyed e q && true) || (b && keyed e′ (lowMark place))) || (eqb q (highMark place) && keyed e′ (highMark place))))
             (ne-eqb q (lowMark place) (λ p. n .0 (omega arith)))
             ∙ ap (λ (b : Bool). (((keyed e q && true) || false) || (b && keyed e′ (highMark place)))) (ne-eqb q (highMark place) (λ p. n .0 (omega arith)))
@@ -285,7 +285,7 @@ module _ (e e′ : ℕ → ℕ) (xs : List ℕ) (place : ℕ) (l : place < Limit
       alone true = refl
       alone false = refl
 
-      high : (q p : ℕ) → placeOf q ≡ p → (q ≡ lowMark p → ⊥) → q ≡ highMark p
+      high : (q p : ℕ) → markPlace q ≡ p → (q ≡ lowMark p → ⊥) → q ≡ highMark p
       high q p y z = omega arith
 
   pub stays-sorted : Sorted e′ (keyed e′) (reordered e′ place xs)

@@ -1,4 +1,4 @@
 pub mod Lines
-pub mod LineLaws
 pub mod Scan
+pub mod LineLaws
 pub mod ScanLaws

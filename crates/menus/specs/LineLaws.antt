@@ -2,70 +2,25 @@
 -- So two parts that are allowed for the same texts and number are the same part (`shown-once`).
 use Prim.Native.Nat.{ℕ, _≤_, _<_}
 use mathlib.Core.Path.{_≡_, refl, sym, ap, _∙_, subst}
-use mathlib.Core.List.{List, [], _∷_, _++_}
+use mathlib.Core.List.{List, []}
 use mathlib.Core.Bool.{Bool, true, false}
-use mathlib.Core.Logic.{_↔_, inl, inr, ite, if-neg}
-use native.Mathlib.Decide.{ℕ-discrete}
+use mathlib.Core.Logic.{_↔_, inl, inr}
 use native.Mathlib.Omega.{arith}
 use lib.ListN.{length, getD}
-use Rattle.menus.specs.Lines.{Uncut, Cut, last, cut, startIn, Line, Missing, MissingOrEmpty, Text, from, Shown, ofTranslated, ofEnglish, ofNeither}
-
--- ---- the lines of a text, worked out: a byte goes to the front of the first line of what follows it
-abbrev pub onto : ℕ → List (List ℕ) → List (List ℕ)
-onto b [] = (b ∷ []) ∷ []
-onto b (line ∷ lines) = (b ∷ line) ∷ lines
-
-unfoldable pub linesOf : List ℕ → List (List ℕ)
-unfolding ℕ-discrete
-linesOf [] = [] ∷ []
-linesOf (b ∷ s) = ite (ℕ-discrete b 10) ([] ∷ linesOf s) (onto b (linesOf s))
-
-pub lines-cut : (s : List ℕ) → linesOf (10 ∷ s) ≡ [] ∷ linesOf s
-unfolding linesOf
-lines-cut s = refl
-
-pub lines-more : (b : ℕ) (s : List ℕ) → (b ≡ 10 → ⊥) → linesOf (b ∷ s) ≡ onto b (linesOf s)
-unfolding linesOf
-lines-more b s n = if-neg (ℕ-discrete b 10) n _ _
-
--- it is a cut of the text
-onto-cut : (b : ℕ) {s : List ℕ} {lines : List (List ℕ)} → (b ≡ 10 → ⊥) → Cut s lines → Cut (b ∷ s) (onto b lines)
-onto-cut b n (last l u) = last (b ∷ l) (n, u)
-onto-cut b n (cut l u c) = cut (b ∷ l) (n, u) c
-
-pub is-cut : (s : List ℕ) → Cut s (linesOf s)
-unfolding linesOf
-is-cut [] = last [] tt
-is-cut (b ∷ s) = go (ℕ-discrete b 10) (is-cut s)
-  where
-    go : (d : Dec (b ≡ 10)) → Cut s (linesOf s) → Cut (b ∷ s) (ite d ([] ∷ linesOf s) (onto b (linesOf s)))
-    go (yes e) c = subst (λ (x : ℕ). Cut (x ∷ s) ([] ∷ linesOf s)) (sym e) (cut [] tt c)
-    go (no n) c = onto-cut b n c
-
--- and there is no other
-uncut-lines : (line : List ℕ) → Uncut line → linesOf line ≡ line ∷ []
-unfolding linesOf
-uncut-lines [] u = refl
-uncut-lines (b ∷ line) u = lines-more b line (u .0) ∙ ap (onto b) (uncut-lines line (u .1))
-
-cut-lines : (line rest : List ℕ) → Uncut line → linesOf (line ++ 10 ∷ rest) ≡ line ∷ linesOf rest
-cut-lines [] rest u = lines-cut rest
-cut-lines (b ∷ line) rest u = lines-more b (line ++ 10 ∷ rest) (u .0) ∙ ap (onto b) (cut-lines line rest (u .1))
-
-pub cut-is : {s : List ℕ} {lines : List (List ℕ)} → Cut s lines → lines ≡ linesOf s
-cut-is (last l u) = sym (uncut-lines l u)
-cut-is (cut l {rest = r} u c) = ap (λ (ls : List (List ℕ)). l ∷ ls) (cut-is c) ∙ sym (cut-lines l r u)
+use Rattle.text_cut.specs.CutLaws.{cut-is}
+use Rattle.menus.specs.Lines.{lineByte, startIn, Line, Missing, MissingOrEmpty, Text, from, Shown, ofTranslated, ofEnglish, ofNeither}
+use Rattle.menus.specs.Scan.{linesOf}
 
 -- ---- one line k, or none
 pub line-is : {s : List ℕ} {k start : ℕ} {line : List ℕ} → Line s k start line → (k < length (linesOf s)) × (start ≡ startIn (linesOf s) k) × (line ≡ getD (linesOf s) k [])
 line-is {s} {k} {start} {line} l =
-    subst (λ (ls : List (List ℕ)). (k < length ls) × (start ≡ startIn ls k) × (line ≡ getD ls k [])) (cut-is (l .cut)) (l .there, l .starts, l .bytes)
+    subst (λ (ls : List (List ℕ)). (k < length ls) × (start ≡ startIn ls k) × (line ≡ getD ls k [])) (cut-is lineByte (l .cut)) (l .there, l .starts, l .bytes)
 
 pub line-once : {s : List ℕ} {k a b : ℕ} {l m : List ℕ} → Line s k a l → Line s k b m → (a ≡ b) × (l ≡ m)
 line-once p q = (line-is p .1 ∙ sym (line-is q .1), line-is p .2 ∙ sym (line-is q .2))
 
 pub missing-is : {s : List ℕ} {k : ℕ} → Missing s k → length (linesOf s) ≤ k
-missing-is {s} {k} m = subst (λ (ls : List (List ℕ)). length ls ≤ k) (cut-is (m .cut)) (m .few)
+missing-is {s} {k} m = subst (λ (ls : List (List ℕ)). length ls ≤ k) (cut-is lineByte (m .cut)) (m .few)
 
 pub not-both : {s : List ℕ} {k start : ℕ} {line : List ℕ} → Line s k start line → Missing s k → ⊥
 not-both l m = omega (arith, line-is l .0, missing-is m)

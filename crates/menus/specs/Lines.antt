@@ -2,20 +2,18 @@
 -- `Shown translated english k r` is all that is promised of the part r that is handed back.
 use Prim.Native.Nat.{ℕ, zero, suc, _≤_, _<_, _+_}
 use mathlib.Core.Path.{_≡_}
-use mathlib.Core.List.{List, [], _∷_, _++_}
+use mathlib.Core.List.{List, [], _∷_}
 use mathlib.Core.Logic.{_⊎_}
 use denote.Ref.{RefT}
 use lib.ListN.{length, getD}
-
--- "byte 10, which belongs to no line"
-abbrev pub Uncut : List ℕ → Type 0
-Uncut [] = Unit {0}
-Uncut (b ∷ line) = (b ≡ 10 → ⊥) × Uncut line
+use Rattle.text_cut.specs.Cuts.{Cut}
 
 -- "Text is cut at each byte 10, which belongs to no line; what follows the last one is a line too."
-pub data Cut : List ℕ → List (List ℕ) → Type 0 where
-  last : (line : List ℕ) → Uncut line → Cut line (line ∷ [])
-  cut : (line : List ℕ) {rest : List ℕ} {lines : List (List ℕ)} → Uncut line → Cut rest lines → Cut (line ++ 10 ∷ rest) (line ∷ lines)
+abbrev pub lineByte : ℕ
+lineByte = 10
+
+abbrev pub CutInto : List ℕ → List (List ℕ) → Type 0
+CutInto = Cut lineByte
 
 -- where line k starts: the lines before it, and the byte 10 after each
 unfoldable pub startIn : List (List ℕ) → ℕ → ℕ
@@ -26,7 +24,7 @@ startIn (line ∷ lines) (suc k) = length line + 1 + startIn lines k
 -- "Lines count from 0.": line k of the text starts at `start`, and `line` are its bytes
 pub record Line (text : List ℕ) (k start : ℕ) (line : List ℕ) : Type 0 where
   pub lines : List (List ℕ)
-  pub cut : Cut text lines
+  pub cut : CutInto text lines
   pub there : k < length lines
   pub starts : start ≡ startIn lines k
   pub bytes : line ≡ getD lines k []
@@ -34,7 +32,7 @@ pub record Line (text : List ℕ) (k start : ℕ) (line : List ℕ) : Type 0 whe
 -- the text "has no line k"
 pub record Missing (text : List ℕ) (k : ℕ) : Type 0 where
   pub lines : List (List ℕ)
-  pub cut : Cut text lines
+  pub cut : CutInto text lines
   pub few : length lines ≤ k
 
 -- the line "is missing or empty"; and that it is neither

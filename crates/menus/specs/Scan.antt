@@ -5,12 +5,19 @@ use mathlib.Core.List.{List, []}
 use mathlib.Core.Logic.{ite}
 use native.Mathlib.Decide.{decLt}
 use lib.ListN.{length, getD}
-use Rattle.menus.specs.Lines.{startIn}
-use Rattle.menus.specs.LineLaws.{linesOf}
+use Rattle.text_cut.specs.Cuts.{partsOf, firstPart}
+use Rattle.menus.specs.Lines.{lineByte, startIn}
+
+-- the lines of a text, the first of them, and line k
+abbrev pub linesOf : List ℕ → List (List ℕ)
+linesOf = partsOf lineByte
+
+abbrev pub firstLine : List ℕ → List ℕ
+firstLine = firstPart lineByte
 
 abbrev pub lineOf : List ℕ → ℕ → List ℕ
 lineOf s k = getD (linesOf s) k []
 
 unfoldable pub startOf : List ℕ → ℕ → ℕ
-unfolding decLt linesOf startIn
+unfolding decLt startIn
 startOf s k = ite (decLt k (length (linesOf s))) (startIn (linesOf s) k) (length s)

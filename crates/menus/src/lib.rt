@@ -3,11 +3,10 @@
 ghost use mathlib.Core.Path.{_≡_};
 ghost use mathlib.Core.Bool.{true};
 ghost use mathlib.Core.Logic.{_↔_};
-ghost use Prim.Native.Nat.{_≤_, _<_, _+_, _-_};
-ghost use lib.ListN.{length, drop};
 ghost use denote.Ref.{ptr};
 ghost use Rattle.menus.specs.Lines.{Full, from, Shown};
 ghost use Rattle.menus.specs.Scan.{lineOf, startOf};
+use text_cut::part_end;
 
 // Line k of the translated text, or of the English one where that line is missing or empty.
 pub fn menu_line<'a>(translated: &'a [u8], english: &'a [u8], k: usize) -> &'a [u8]
@@ -24,7 +23,7 @@ pub fn from_translated(translated: &[u8], k: usize) -> bool
     ensures { λ r. ⌜ ((r ≡ true) ↔ Full (now (translated .entry)) k) ⌝ }
 {
     let start = line_start(translated, k);
-    let end = line_end(translated, start);
+    let end = part_end(translated, start, b'\n');
     start < end
 }
 
@@ -34,7 +33,7 @@ fn line<'a>(text: &'a [u8], k: usize) -> &'a [u8]
     ensures place { λ r. ⌜ ptr r ≡ from (text .entry) (startOf (now (text .entry)) k) ⌝ }
 {
     let start = line_start(text, k);
-    let end = line_end(text, start);
+    let end = part_end(text, start, b'\n');
     &text[start..end]
 }
 
@@ -43,37 +42,14 @@ fn line_start(text: &[u8], k: usize) -> usize
     ensures { λ r. ⌜ r ≡ startOf (now (text .entry)) k ⌝ }
 {
     let mut left = k;
-    let mut i: usize = 0;
-    while i < text.len() {
-        if left == 0 {
-            return i;
+    let mut start: usize = 0;
+    while left > 0 {
+        let end = part_end(text, start, b'\n');
+        if end == text.len() {
+            return end;
         }
-        left = left_after(left, text[i]);
-        i += 1;
+        start = end + 1;
+        left -= 1;
     }
-    text.len()
-}
-
-// How many lines are left to pass after the byte b.
-fn left_after(left: usize, b: u8) -> usize
-    requires { ⌜ 0 < left ⌝ }
-    ensures passed { λ r. ⌜ (b ≡ 10 → r ≡ left - 1) ⌝ }
-    ensures within { λ r. ⌜ ((b ≡ 10 → ⊥) → r ≡ left) ⌝ }
-{
-    if b == 10 { left - 1 } else { left }
-}
-
-// Where the line ends that starts at a place.
-fn line_end(text: &[u8], start: usize) -> usize
-    requires { ⌜ start ≤ length (now text) ⌝ }
-    ensures { λ r. ⌜ r ≡ start + length (lineOf (drop start (now (text .entry))) 0) ⌝ }
-{
-    let mut i = start;
-    while i < text.len() {
-        if text[i] == 10 {
-            return i;
-        }
-        i += 1;
-    }
-    i
+    start
 }

@@ -12,20 +12,21 @@ use Rattle.line_command.specs.declared.Line.the-variants.{Tell, Ask, Spoil, Oth
 use Rattle.line_command.specs.declared.Asked.{Asked}
 use Rattle.line_command.specs.declared.Other.{Other as OtherLine}
 use Rattle.line_tell.specs.Tells.{Tells}
-use Rattle.mudwicket.specs.Answered.{Found, ByLine, Answered}
+use Rattle.mudwicket.specs.Answered.{CommandIn, ByLine, Answered}
+use Rattle.mudwicket.specs.declared.input.Arrival.{Arrival}
 
-module _ {kind : ℕ} {line : List ℕ} {room numbers : List ℤ} {c : Line} (f : Found kind line room numbers c) where
-  by : (m : ℕ) (before after : Desk) (other : Line) → c ≡ other → ByLine other numbers m before after → Answered kind line room m before after
-  by m before after other e h = record { says = c; numbers = numbers; found = f; does = subst (λ (q : Line). ByLine q numbers m before after) (sym e) h }
+module _ {arrival : Arrival} {line : List ℕ} {room : List ℤ} {c : Line} (numbers : List ℤ) (f : CommandIn arrival line room numbers c) where
+  by : (m : ℕ) (before after : Desk) (other : Line) → c ≡ other → ByLine other numbers m before after → Answered arrival line room m before after
+  by m before after other e h = record { says = c; numbers = numbers; command = f; does = subst (λ (q : Line). ByLine q numbers m before after) (sym e) h }
 
-  pub answered-told : {m : ℕ} {before after : Desk} {command : Command} {count : ℕ} → c ≡ Tell command count → Tells command count numbers m before after → Answered kind line room m before after
+  pub answered-told : {m : ℕ} {before after : Desk} {command : Command} {count : ℕ} → c ≡ Tell command count → Tells command count numbers m before after → Answered arrival line room m before after
   answered-told {m} {before} {after} {command} {count} e h = by m before after (Tell command count) e h
 
-  pub answered-asked : (m : ℕ) (d : Desk) {asked : Asked} → c ≡ Ask asked → Answered kind line room m d d
+  pub answered-asked : (m : ℕ) (d : Desk) {asked : Asked} → c ≡ Ask asked → Answered arrival line room m d d
   answered-asked m d {asked} e = by m d d (Ask asked) e refl
 
-  pub answered-spoiled : (m : ℕ) (before after : Desk) {cell : Cell} → c ≡ Spoil cell → Answered kind line room m before after
+  pub answered-spoiled : (m : ℕ) (before after : Desk) {cell : Cell} → c ≡ Spoil cell → Answered arrival line room m before after
   answered-spoiled m before after {cell} e = by m before after (Spoil cell) e tt
 
-  pub answered-other : (m : ℕ) (d : Desk) {other : OtherLine} → c ≡ Other other → Answered kind line room m d d
+  pub answered-other : (m : ℕ) (d : Desk) {other : OtherLine} → c ≡ Other other → Answered arrival line room m d d
   answered-other m d {other} e = by m d d (Other other) e refl

@@ -1,3 +1,3 @@
-pub mod Held
+pub mod InBuffer
 pub mod Answered
 pub mod AnsweredLaws

@@ -3,9 +3,10 @@
 ghost use Prim.Native.Nat.{min};
 ghost use lib.ListN.{length, getD};
 ghost use Rattle.desk_state.specs.Desk.{deskOf};
-ghost use Rattle.mudwicket.specs.Answered.{Found, Answered};
-use crate::input;
+ghost use Rattle.mudwicket.specs.Answered.{LineSays, CommandIn, Answered};
+use crate::input::Arrival;
 use line::lent;
+use line::lent::MOST_BYTES;
 use line::out;
 use line_ask::asked;
 use line_command::Line;
@@ -17,24 +18,26 @@ use line_read::texts;
 use line_spoil::spoil;
 use line_tell::tell;
 
-// Puts the answer to what a turn found, and hands back the next place.
+// Puts the answer to what a round found, and hands back the next place.
 pub fn answer(
-    kind: u8,
+    arrival: Arrival,
     line: &[u8],
     out: &mut [u8],
     at: usize,
     texts: &mut [u8],
     numbers: &mut [i32],
-    lent: &mut [usize; 2],
+    lent: &mut [usize; lent::COUNTS],
     shapes: &mut [i32; limits::SHAPES_LENGTH],
     places: &mut [i32; limits::PLACES_LENGTH],
     rows: &mut [u8; limits::ROWS],
     book: &mut [u32; limits::BOOK],
     marks: &mut [u16],
 ) -> usize
-    ensures { λ _. ⌜ Answered kind (now (line .entry)) (now (numbers .entry)) (min (getD (now (lent .entry)) 1 0) (length (now (marks .entry)))) (deskOf (now (shapes .entry)) (now (places .entry)) (now (rows .entry)) (now (book .entry)) (now (marks .entry))) (deskOf (now (shapes .exit)) (now (places .exit)) (now (rows .exit)) (now (book .exit)) (now (marks .exit))) ⌝ }
+    ensures { λ _. ⌜ Answered arrival (now (line .entry)) (now (numbers .entry)) (min (getD (now (lent .entry)) 1 0) (length (now (marks .entry))))
+        (deskOf (now (shapes .entry)) (now (places .entry)) (now (rows .entry)) (now (book .entry)) (now (marks .entry)))
+        (deskOf (now (shapes .exit)) (now (places .exit)) (now (rows .exit)) (now (book .exit)) (now (marks .exit))) ⌝ }
 {
-    match found(kind, line, numbers) {
+    match command_in(arrival, line, numbers) {
         Line::Tell(command, count) => tell(
             command,
             count,
@@ -54,17 +57,22 @@ pub fn answer(
     }
 }
 
-// What the line says that a turn found.
-fn found(kind: u8, line: &[u8], numbers: &mut [i32]) -> Line
-    ensures { λ r. ⌜ Found kind (now (line .entry)) (now (numbers .entry)) (now (numbers .exit)) r ⌝ }
+// What that says which a round found.
+fn command_in(arrival: Arrival, line: &[u8], numbers: &mut [i32]) -> Line
+    ensures { λ r. ⌜ CommandIn arrival (now (line .entry)) (now (numbers .entry)) (now (numbers .exit)) r ⌝ }
 {
-    if kind == input::LONG {
-        return Line::Other(Other::Unknown);
+    match arrival {
+        Arrival::Nothing => Line::Other(Other::Nothing),
+        Arrival::TooLong => Line::Other(Other::Unknown),
+        _ => says(line, numbers),
     }
-    if kind == input::PASSED {
-        return Line::Other(Other::Nothing);
-    }
-    if input::MOST < line.len() {
+}
+
+// What a line says, where it is not too long.
+fn says(line: &[u8], numbers: &mut [i32]) -> Line
+    ensures { λ r. ⌜ LineSays (now (line .entry)) (now (numbers .entry)) (now (numbers .exit)) r ⌝ }
+{
+    if MOST_BYTES < line.len() {
         return Line::Other(Other::Unknown);
     }
     read(line, numbers)
@@ -78,7 +86,7 @@ fn other(
     at: usize,
     texts: &mut [u8],
     numbers: &mut [i32],
-    lent: &mut [usize; 2],
+    lent: &mut [usize; lent::COUNTS],
 ) -> usize {
     let end = text_words::word_end(line, 0);
     match command {

@@ -1,39 +1,35 @@
 // Standard input, cut into lines. The bytes that were read lie in a lent buffer that is longer than the longest line that is answered.
-// A turn finds the next line, or finds that more has to be read, or reads.
+// A round finds the next line, or finds that more has to be read, or reads.
 ghost use Prim.Native.Nat.{_≤_, _+_};
 ghost use lib.ListN.{length};
-ghost use Rattle.mudwicket.specs.Held.{Held};
+ghost use Rattle.mudwicket.specs.InBuffer.{InBuffer};
+use line::lent::MOST_BYTES;
 
-// "A line of more than 16,384 bytes gets one `?`" (docs/COMMANDS.md).
-pub const MOST: usize = 16384;
-
-// What a turn found: nothing to answer; a line; a line that is too long; that more has to be read; the last line.
-pub const PASSED: u8 = 0;
-
-pub const LINE: u8 = 1;
-
-pub const LONG: u8 = 2;
-
-pub const MORE: u8 = 3;
-
-pub const LAST: u8 = 4;
+// What a round found: nothing to answer; a line; a line that is too long; a line of which more has to be read; the last line.
+pub enum Arrival {
+    Nothing,
+    Line,
+    TooLong,
+    Unfinished,
+    Last,
+}
 
 // The bytes from `from` to `to` wait in the buffer, and no byte 10 stands among them before `seen`. The bytes from `start` to `end` are the
-// line that a turn found. `skipping` says that what waits belongs to a line that was too long, and `ended` that nothing is left to read.
+// line that a round found. `skipping` says that what waits belongs to a line that was too long, and `ended` that nothing is left to read.
 pub struct State {
     pub from: usize,
     pub seen: usize,
     pub to: usize,
     pub start: usize,
     pub end: usize,
-    pub kind: u8,
+    pub arrival: Arrival,
     pub skipping: bool,
     pub ended: bool,
 }
 
 // Before the first read.
 pub fn start() -> State
-    ensures { λ r. ⌜ Held r 0 ⌝ }
+    ensures { λ r. ⌜ InBuffer r 0 ⌝ }
 {
     State {
         from: 0,
@@ -41,28 +37,37 @@ pub fn start() -> State
         to: 0,
         start: 0,
         end: 0,
-        kind: MORE,
+        arrival: Arrival::Unfinished,
         skipping: false,
         ended: false,
     }
 }
 
-// A turn: reads where the turn before found that more has to be read, and else looks for the next line.
+// A round: reads where the round before found that more has to be read, and else looks for the next line.
 pub fn advance(input: &mut [u8], s: State) -> State
-    requires { ⌜ Held s (length (now input)) ⌝ }
-    ensures { λ r. ⌜ Held r (length (now (input .entry))) ⌝ }
+    requires { ⌜ InBuffer s (length (now input)) ⌝ }
+    ensures { λ r. ⌜ InBuffer r (length (now (input .entry))) ⌝ }
 {
-    let kind = s.kind;
-    if kind == MORE {
-        return refill(input, s);
+    let arrival = s.arrival;
+    match arrival {
+        Arrival::Unfinished => refill(input, s),
+        _ => cut(input, s),
     }
-    cut(input, s)
+}
+
+// Whether a round found the last line.
+pub fn is_last(s: State) -> bool {
+    let arrival = s.arrival;
+    match arrival {
+        Arrival::Last => true,
+        _ => false,
+    }
 }
 
 // The next line of what waits: it ends before the next byte 10, or where the input ends.
 fn cut(input: &[u8], s: State) -> State
-    requires { ⌜ Held s (length (now input)) ⌝ }
-    ensures { λ r. ⌜ Held r (length (now (input .entry))) ⌝ }
+    requires { ⌜ InBuffer s (length (now input)) ⌝ }
+    ensures { λ r. ⌜ InBuffer r (length (now (input .entry))) ⌝ }
 {
     let from = s.from;
     let to = s.to;
@@ -70,13 +75,14 @@ fn cut(input: &[u8], s: State) -> State
     let ended = s.ended;
     let end = line_end(input, s.seen, to);
     if end < to {
+        let arrival = nothing_if_skipping(skipping, Arrival::Line);
         return State {
             from: end + 1,
             seen: end + 1,
             to,
             start: from,
             end,
-            kind: unless(skipping, LINE),
+            arrival,
             skipping: false,
             ended,
         };
@@ -87,27 +93,29 @@ fn cut(input: &[u8], s: State) -> State
 // Nothing that waits ends a line. What is longer than a line may be is dropped, with what follows it up to the next byte 10.
 fn uncut(from: usize, to: usize, skipping: bool, ended: bool) -> State
     requires { ⌜ from ≤ to ⌝ }
-    ensures { λ r. ⌜ Held r to ⌝ }
+    ensures { λ r. ⌜ InBuffer r to ⌝ }
 {
-    if MOST < to - from {
+    if MOST_BYTES < to - from {
+        let arrival = nothing_if_skipping(skipping, Arrival::TooLong);
         return State {
             from: to,
             seen: to,
             to,
             start: to,
             end: to,
-            kind: unless(skipping, LONG),
+            arrival,
             skipping: true,
             ended,
         };
     }
+    let arrival = last_if_ended(ended);
     State {
         from,
         seen: to,
         to,
-        start: unless_from(skipping, from, to),
+        start: line_start(skipping, from, to),
         end: to,
-        kind: if_ended(ended),
+        arrival,
         skipping,
         ended,
     }
@@ -115,8 +123,8 @@ fn uncut(from: usize, to: usize, skipping: bool, ended: bool) -> State
 
 // Moves what waits to the buffer's front, and reads behind it.
 fn refill(input: &mut [u8], s: State) -> State
-    requires { ⌜ Held s (length (now input)) ⌝ }
-    ensures { λ r. ⌜ Held r (length (now (input .entry))) ⌝ }
+    requires { ⌜ InBuffer s (length (now input)) ⌝ }
+    ensures { λ r. ⌜ InBuffer r (length (now (input .entry))) ⌝ }
 {
     let from = s.from;
     let kept = s.to - from;
@@ -129,7 +137,7 @@ fn refill(input: &mut [u8], s: State) -> State
         to: kept + n,
         start: 0,
         end: 0,
-        kind: PASSED,
+        arrival: Arrival::Nothing,
         skipping,
         ended: n == 0,
     }
@@ -166,28 +174,26 @@ fn line_end(input: &[u8], seen: usize, to: usize) -> usize
     requires { ⌜ (seen ≤ to) × (to ≤ length (now input)) ⌝ }
     ensures { λ r. ⌜ (seen ≤ r) × (r ≤ to) ⌝ }
 {
-    let mut i = seen;
-    while i < to {
-        if input[i] == b'\n' {
-            return i;
-        }
-        i += 1;
-    }
-    i
+    text_cut::part_end(&input[..to], seen, b'\n')
 }
 
-// What a turn found, unless it is the rest of a line that was too long.
-fn unless(skipping: bool, kind: u8) -> u8 {
-    if skipping { PASSED } else { kind }
+// What a round found, and nothing where that is the rest of a line that was too long.
+fn nothing_if_skipping(skipping: bool, arrival: Arrival) -> Arrival {
+    if skipping { Arrival::Nothing } else { arrival }
 }
 
-fn unless_from(skipping: bool, from: usize, to: usize) -> usize
+// Where the line starts that waits; of one that was too long nothing is left.
+fn line_start(skipping: bool, from: usize, to: usize) -> usize
     requires { ⌜ from ≤ to ⌝ }
     ensures { λ r. ⌜ r ≤ to ⌝ }
 {
     if skipping { to } else { from }
 }
 
-fn if_ended(ended: bool) -> u8 {
-    if ended { LAST } else { MORE }
+fn last_if_ended(ended: bool) -> Arrival {
+    if ended {
+        Arrival::Last
+    } else {
+        Arrival::Unfinished
+    }
 }

@@ -4,7 +4,8 @@ mod answer;
 mod input;
 
 ghost use lib.ListN.{length};
-ghost use Rattle.mudwicket.specs.Held.{Held};
+ghost use Rattle.mudwicket.specs.InBuffer.{InBuffer};
+use input::Arrival;
 use input::State;
 use line::lent;
 use line::out;
@@ -39,14 +40,14 @@ fn main() {
     );
 }
 
-// A line or a read a turn. A proved loop has to end, and nothing says that the input does: so the turns are counted down, from a number
+// A line or a read a round. A proved loop has to end, and nothing says that the input does: so the rounds are counted down, from a number
 // that no run uses up.
 fn run(
     input: &mut [u8],
     out: &mut [u8],
     texts: &mut [u8],
     numbers: &mut [i32],
-    lent: &mut [usize; 2],
+    lent: &mut [usize; lent::COUNTS],
     shapes: &mut [i32; limits::SHAPES_LENGTH],
     places: &mut [i32; limits::PLACES_LENGTH],
     rows: &mut [u8; limits::ROWS],
@@ -55,8 +56,8 @@ fn run(
 ) {
     let mut s = input::start();
     let mut at: usize = 0;
-    let mut turns = u64::MAX;
-    while turns > 0 && s.kind != input::LAST {
+    let mut rounds = u64::MAX;
+    while rounds > 0 && !input::is_last(s) {
         s = input::advance(input, s);
         at = respond(
             input,
@@ -72,12 +73,12 @@ fn run(
             book,
             marks,
         );
-        turns -= 1;
+        rounds -= 1;
     }
     out::flush(out, at);
 }
 
-// Answers what a turn found. What waits is written out before more is read, so that a person sees the answer to each line.
+// Answers what a round found. What waits is written out before more is read, so that a person sees the answer to each line.
 fn respond(
     input: &[u8],
     s: State,
@@ -85,33 +86,33 @@ fn respond(
     at: usize,
     texts: &mut [u8],
     numbers: &mut [i32],
-    lent: &mut [usize; 2],
+    lent: &mut [usize; lent::COUNTS],
     shapes: &mut [i32; limits::SHAPES_LENGTH],
     places: &mut [i32; limits::PLACES_LENGTH],
     rows: &mut [u8; limits::ROWS],
     book: &mut [u32; limits::BOOK],
     marks: &mut [u16],
 ) -> usize
-    requires { ⌜ Held s (length (now input)) ⌝ }
+    requires { ⌜ InBuffer s (length (now input)) ⌝ }
 {
-    let kind = s.kind;
-    if kind == input::MORE {
-        return out::flush(out, at);
-    }
+    let arrival = s.arrival;
     let start = s.start;
     let end = s.end;
-    answer::answer(
-        kind,
-        &input[start..end],
-        out,
-        at,
-        texts,
-        numbers,
-        lent,
-        shapes,
-        places,
-        rows,
-        book,
-        marks,
-    )
+    match arrival {
+        Arrival::Unfinished => out::flush(out, at),
+        _ => answer::answer(
+            arrival,
+            &input[start..end],
+            out,
+            at,
+            texts,
+            numbers,
+            lent,
+            shapes,
+            places,
+            rows,
+            book,
+            marks,
+        ),
+    }
 }

@@ -12,7 +12,7 @@ use Rattle.pieces.specs.declared.placed.Ends.{Ends}
 use Rattle.pieces.specs.Pieces.{Store, Taken, PiecesInOrder, countAt, pieceAt, lowAt, highAt}
 
 -- the piece at a taken place of a store in order
-pub record Piece (d : Store) (p : ℕ) : Type 0 where
+pub record PlacedPiece (d : Store) (p : ℕ) : Type 0 where
   pub order : PiecesInOrder d
   pub taken : Taken (d .places) p
 

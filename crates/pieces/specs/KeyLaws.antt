@@ -11,16 +11,16 @@ use lib.Seq.{getD-set-same, getD-set-other, ext-getD}
 use borrow.Author.Count.{below-more}
 use borrow.Author.Tests.{eq-eqb, ne-eqb, lt-ltb}
 use Rattle.limits.specs.Limits
-use Rattle.marks.specs.Marks.{Axis, axisOf, isMark, valueOf}
+use Rattle.marks.specs.Marks.{Axis, axisOf, isMark, markValue}
 use Rattle.marks.specs.Keys.{keyAt, keyFor, noKey, Keyed}
 use Rattle.marks.specs.Order.{at-mark, at-none}
 use Rattle.pieces.specs.Pieces.{Store, Taken, axesOf, takenAt, lowAt, highAt}
 use Rattle.pieces.specs.Store.{taken-is, empty-is}
 
-pub value-low : (d : Store) (axis mark : ℕ) → mark % 2 ≡ 0 → lowAt d axis (mark / 2) ≡ valueOf (axisOf (axesOf d) axis) mark
+pub value-low : (d : Store) (axis mark : ℕ) → mark % 2 ≡ 0 → lowAt d axis (mark / 2) ≡ markValue (axisOf (axesOf d) axis) mark
 value-low d axis mark e = sym (ap (λ b. cond b (lowAt d axis (mark / 2)) (highAt d axis (mark / 2))) (eq-eqb (mark % 2) 0 e))
 
-pub value-high : (d : Store) (axis mark : ℕ) → (mark % 2 ≡ 0 → ⊥) → highAt d axis (mark / 2) ≡ valueOf (axisOf (axesOf d) axis) mark
+pub value-high : (d : Store) (axis mark : ℕ) → (mark % 2 ≡ 0 → ⊥) → highAt d axis (mark / 2) ≡ markValue (axisOf (axesOf d) axis) mark
 value-high d axis mark f = sym (ap (λ b. cond b (lowAt d axis (mark / 2)) (highAt d axis (mark / 2))) (ne-eqb (mark % 2) 0 f))
 
 pub mark-taken : (d : Store) (axis mark : ℕ) → mark < Limits.axisMarks → Taken (d .places) (mark / 2) → isMark (axisOf (axesOf d) axis) mark ≡ true
@@ -29,7 +29,7 @@ mark-taken d axis mark h t = ap (λ b. b && takenAt d (mark / 2)) (lt-ltb mark L
 pub mark-empty : (d : Store) (axis mark : ℕ) → mark < Limits.axisMarks → (Taken (d .places) (mark / 2) → ⊥) → isMark (axisOf (axesOf d) axis) mark ≡ false
 mark-empty d axis mark h f = ap (λ b. b && takenAt d (mark / 2)) (lt-ltb mark Limits.axisMarks h) ∙ empty-is d (mark / 2) (omega arith) f
 
-pub key-taken : (d : Store) (axis mark key : ℕ) {v : ℤ} → mark < Limits.axisMarks → Taken (d .places) (mark / 2) → v ≡ valueOf (axisOf (axesOf d) axis) mark → key ≡ keyFor v mark
+pub key-taken : (d : Store) (axis mark key : ℕ) {v : ℤ} → mark < Limits.axisMarks → Taken (d .places) (mark / 2) → v ≡ markValue (axisOf (axesOf d) axis) mark → key ≡ keyFor v mark
     → key ≡ keyAt (axisOf (axesOf d) axis) mark
 key-taken d axis mark key h t ev e = e ∙ ap (λ z. keyFor z mark) ev ∙ sym (at-mark (axisOf (axesOf d) axis) mark (mark-taken d axis mark h t))
 

@@ -34,13 +34,13 @@ pub record Loaded (d : Store) (s : ℕ) : Type 0 where
   pub some : cornersOf d s ≡ 0 → ⊥
 
 -- number k of a shape: corner k / 3, coordinate k % 3
-abbrev pub shapeNumber : Store → ℕ → ℕ → ℤ
-shapeNumber d s k = getD (d .shapes) (s * Limits.shapeCells + 1 + k) (pos 0)
+abbrev pub shapeValue : Store → ℕ → ℕ → ℤ
+shapeValue d s k = getD (d .shapes) (s * Limits.shapeCells + 1 + k) (pos 0)
 
 -- "A shape is a list of 1 to 32 corner points, three numbers each from −65,536 to 65,536." One that is not loaded has none
 pub record ShapesInOrder (d : Store) : Type 0 where
   pub few : (s : ℕ) → s < Limits.shapes → Numbered (Limits.corners + 1) (countIn (d .shapes) s)
-  pub near : (s k : ℕ) → s < Limits.shapes → k < 3 * cornersOf d s → Within Limits.shapeReach (shapeNumber d s k)
+  pub near : (s k : ℕ) → s < Limits.shapes → k < 3 * cornersOf d s → Within Limits.shapeReach (shapeValue d s k)
 
 -- what stands at a place: its shape plus one, or 0; its turn; its offset
 abbrev pub heldIn : List ℤ → ℕ → ℤ
@@ -84,7 +84,7 @@ countAt d p = cornersOf d (shapeAt d p)
 
 unfoldable pub placedCorner : Store → ℕ → ℕ → ℕ → ℤ
 placedCorner d p i axis =
-    placedAt (turnAt d p) axis (shapeNumber d (shapeAt d p) (3 * i)) (shapeNumber d (shapeAt d p) (3 * i + 1)) (shapeNumber d (shapeAt d p) (3 * i + 2)) (offsetAt d p axis)
+    placedAt (turnAt d p) axis (shapeValue d (shapeAt d p) (3 * i)) (shapeValue d (shapeAt d p) (3 * i + 1)) (shapeValue d (shapeAt d p) (3 * i + 2)) (offsetAt d p axis)
 
 -- the first n values of f, one after the other
 unfoldable pub listTo : {A : Type 0} → ℕ → (ℕ → A) → List A

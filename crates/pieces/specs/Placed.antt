@@ -31,7 +31,7 @@ numberAt shapes places pose place i axis =
     placedAt (pose .turn) axis (cornerNumber shapes pose (3 * i)) (cornerNumber shapes pose (3 * i + 1)) (cornerNumber shapes pose (3 * i + 2)) (offsetNumber places place axis)
 
 -- what is asked: a shape within the array, near, a turn, a near offset
-pub record Held (shapes places : List ℤ) (pose : Pose) (place : ℕ) : Type 0 where
+pub record PoseFits (shapes places : List ℤ) (pose : Pose) (place : ℕ) : Type 0 where
   pub place< : place < Limits.places
   pub some : 1 ≤ pose .count
   pub few : pose .count ≤ Limits.corners
@@ -109,7 +109,7 @@ pub placed-eq : (turn axis : ℕ) {x x′ y y′ z z′ o o′ : ℤ} → x ≡ 
 placed-eq turn axis ex ey ez eo = λ i. placedAt turn axis (ex i) (ey i) (ez i) (eo i)
 
 -- every number of a piece is near
-pub number-within : {shapes places : List ℤ} {pose : Pose} {place : ℕ} → Held shapes places pose place → (i axis : ℕ) → i < pose .count → axis < 3
+pub number-within : {shapes places : List ℤ} {pose : Pose} {place : ℕ} → PoseFits shapes places pose place → (i axis : ℕ) → i < pose .count → axis < 3
     → Within Limits.placedReach (numberAt shapes places pose place i axis)
 unfolding numberAt
 number-within {pose} h i axis hi ha = placed-within (pose .turn) axis (h .near (3 * i) (omega arith)) (h .near (3 * i + 1) (omega arith)) (h .near (3 * i + 2) (omega arith)) (h .offset axis ha)

@@ -16,11 +16,12 @@ use Rattle.ints.specs.Order.{lt-or-ge}
 use Rattle.limits.specs.Limits
 use Rattle.space.specs.Lists.{Placed}
 use Rattle.turns.specs.Turns.{placedAt}
-use Rattle.marks.specs.Marks.{axisOf, placeOf, sideOf, RangedMarks}
+use Rattle.marks.specs.Marks.{axisOf, markPlace, sideOf, RangedMarks}
 use Rattle.marks.specs.Order.{mark-low}
-use Rattle.pieces.specs.Pieces.{Store, Taken, PiecesInOrder, heldIn, turnIn, cornersOf, shapeNumber, shapeAt, turnAt, offsetAt, countAt, placedCorner, listTo, pieceAt, leastTo, greatestTo, lesser, greater, lowAt, highAt, takenAt, axesOf}
+use Rattle.pieces.specs.Pieces.{Store, Taken, PiecesInOrder, heldIn, turnIn, cornersOf, shapeValue, shapeAt, turnAt, offsetAt, countAt}
+use Rattle.pieces.specs.Pieces.{placedCorner, listTo, pieceAt, leastTo, greatestTo, lesser, greater, lowAt, highAt, takenAt, axesOf}
 use Rattle.pieces.specs.Taking.{taken-decided}
-use Rattle.pieces.specs.Placed.{numberAt, Held, poseOf, PoseAsked, number-within, pick, least-within, greatest-within, placed-eq}
+use Rattle.pieces.specs.Placed.{numberAt, PoseFits, poseOf, PoseAsked, number-within, pick, least-within, greatest-within, placed-eq}
 
 -- ---- what a taken place is asked with
 pub asked : {d : Store} → PiecesInOrder d → (p : ℕ) → Taken (d .places) p → PoseAsked (d .shapes) (d .places) p
@@ -28,7 +29,7 @@ asked {d} o p t =
     let k = o .places .all p t in
     record { place< = t .place; some = t .holds; shape = k .shape; turn = k .turn; count = o .shapes .few (shapeAt d p) (k .loaded .shape) }
 
-pub held : {d : Store} → PiecesInOrder d → (p : ℕ) → Taken (d .places) p → Held (d .shapes) (d .places) (poseOf (d .shapes) (d .places) p) p
+pub held : {d : Store} → PiecesInOrder d → (p : ℕ) → Taken (d .places) p → PoseFits (d .shapes) (d .places) (poseOf (d .shapes) (d .places) p) p
 held {d} o p t =
     let k = o .places .all p t in
     let s = k .loaded .shape in
@@ -129,8 +130,8 @@ pub ranged : {d : Store} → PiecesInOrder d → RangedMarks (axesOf d)
 ranged {d} o axis ha mark m =
     let k = mark-low (axisOf (axesOf d) axis) mark m in
     let low = k .0 in
-    let t = taken-of d (placeOf mark) (omega arith) (k .1) in
-    pick (eqb (sideOf mark) 0) (low-within o (placeOf mark) axis t ha) (high-within o (placeOf mark) axis t ha)
+    let t = taken-of d (markPlace mark) (omega arith) (k .1) in
+    pick (eqb (sideOf mark) 0) (low-within o (markPlace mark) axis t ha) (high-within o (markPlace mark) axis t ha)
 
 -- ---- a piece depends on its own place and shape alone
 pub record SameAt (d e : Store) (p : ℕ) : Type 0 where
@@ -138,13 +139,13 @@ pub record SameAt (d e : Store) (p : ℕ) : Type 0 where
   pub turn : turnIn (d .places) p ≡ turnIn (e .places) p
   pub offset : (axis : ℕ) → axis < 3 → offsetAt d p axis ≡ offsetAt e p axis
   pub count : countAt d p ≡ countAt e p
-  pub numbers : (k : ℕ) → k < 3 * countAt d p → shapeNumber d (shapeAt d p) k ≡ shapeNumber e (shapeAt e p) k
+  pub numbers : (k : ℕ) → k < 3 * countAt d p → shapeValue d (shapeAt d p) k ≡ shapeValue e (shapeAt e p) k
 
 module _ {d e : Store} {p : ℕ} (s : SameAt d e p) where
   same-corner : (i axis : ℕ) → i < countAt d p → axis < 3 → placedCorner d p i axis ≡ placedCorner e p i axis
   unfolding placedCorner
   same-corner i axis hi ha =
-      ap₂ (λ t o. placedAt t axis (shapeNumber d (shapeAt d p) (3 * i)) (shapeNumber d (shapeAt d p) (3 * i + 1)) (shapeNumber d (shapeAt d p) (3 * i + 2)) o) (ap natAbs (s .turn)) (s .offset axis ha)
+      ap₂ (λ t o. placedAt t axis (shapeValue d (shapeAt d p) (3 * i)) (shapeValue d (shapeAt d p) (3 * i + 1)) (shapeValue d (shapeAt d p) (3 * i + 2)) o) (ap natAbs (s .turn)) (s .offset axis ha)
       ∙ placed-eq (turnAt e p) axis (s .numbers (3 * i) (omega arith)) (s .numbers (3 * i + 1) (omega arith)) (s .numbers (3 * i + 2) (omega arith)) refl
 
   pub same-piece : pieceAt d p ≡ pieceAt e p

@@ -5,10 +5,10 @@ ghost use Prim.Native.Nat.{_<_, _/_};
 ghost use lib.ListN.{length};
 ghost use Rattle.ints.specs.Bounds.{Within};
 ghost use Rattle.limits.specs.Limits;
-ghost use Rattle.marks.specs.Marks.{axisOf, valueOf};
+ghost use Rattle.marks.specs.Marks.{axisOf, markValue};
 ghost use Rattle.marks.specs.Keys.{keyAt, Keyed};
 ghost use Rattle.pieces.specs.Pieces.{storeOf, axesOf, PiecesInOrder};
-ghost use Rattle.pieces.specs.Boxes.{Piece};
+ghost use Rattle.pieces.specs.Boxes.{PlacedPiece};
 use crate::placed::piece_ends;
 use crate::taking::is_taken;
 use marks::NO_KEY;
@@ -21,8 +21,8 @@ fn mark_value(
     axis: usize,
     mark: usize,
 ) -> i32
-    requires { ⌜ Piece (storeOf (now shapes) (now places)) (mark / 2) × (axis < 3) ⌝ }
-    ensures { λ r. ⌜ (r ≡ valueOf (axisOf (axesOf (storeOf (now (shapes .entry)) (now (places .entry)))) axis) mark) × Within Limits.placedReach r ⌝ }
+    requires { ⌜ PlacedPiece (storeOf (now shapes) (now places)) (mark / 2) × (axis < 3) ⌝ }
+    ensures { λ r. ⌜ (r ≡ markValue (axisOf (axesOf (storeOf (now (shapes .entry)) (now (places .entry)))) axis) mark) × Within Limits.placedReach r ⌝ }
 {
     let e = piece_ends(shapes, places, mark / 2, axis);
     let low = e.low;

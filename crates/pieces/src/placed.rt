@@ -8,8 +8,8 @@ ghost use Rattle.ints.specs.Bounds.{Within};
 ghost use Rattle.limits.specs.Limits;
 ghost use Rattle.limits.specs.Decides.{Decides};
 ghost use Rattle.pieces.specs.Pieces.{lesser, greater, storeOf, countAt};
-ghost use Rattle.pieces.specs.Boxes.{Piece, Numbers, EndsAt, ApartOn, Apart};
-ghost use Rattle.pieces.specs.Placed.{numberAt, Held, NumbersOf, PoseAsked, poseOf, EndsOf};
+ghost use Rattle.pieces.specs.Boxes.{PlacedPiece, Numbers, EndsAt, ApartOn, Apart};
+ghost use Rattle.pieces.specs.Placed.{numberAt, PoseFits, NumbersOf, PoseAsked, poseOf, EndsOf};
 use crate::index::index_of;
 use turns::placed_axis;
 
@@ -53,7 +53,7 @@ fn placed_number(
     i: usize,
     axis: usize,
 ) -> i32
-    requires { ⌜ Held (now shapes) (now places) pose place × (i < pose .count) × (axis < 3) ⌝ }
+    requires { ⌜ PoseFits (now shapes) (now places) pose place × (i < pose .count) × (axis < 3) ⌝ }
     ensures { λ r. ⌜ (r ≡ numberAt (now (shapes .entry)) (now (places .entry)) pose place i axis) × Within Limits.placedReach r ⌝ }
 {
     let start = pose.start;
@@ -73,7 +73,7 @@ fn ends_of(
     place: usize,
     axis: usize,
 ) -> Ends
-    requires { ⌜ Held (now shapes) (now places) pose place × (axis < 3) ⌝ }
+    requires { ⌜ PoseFits (now shapes) (now places) pose place × (axis < 3) ⌝ }
     ensures { λ r. ⌜ EndsOf (now (shapes .entry)) (now (places .entry)) pose place axis r ⌝ }
 {
     let n = pose.count;
@@ -106,7 +106,7 @@ fn numbers_of(
     pose: Pose,
     place: usize,
 ) -> [i32; limits::SHAPE_NUMBERS]
-    requires { ⌜ Held (now shapes) (now places) pose place ⌝ }
+    requires { ⌜ PoseFits (now shapes) (now places) pose place ⌝ }
     ensures { λ r. ⌜ NumbersOf (now (shapes .entry)) (now (places .entry)) pose place r ⌝ }
 {
     let n = pose.count;
@@ -146,7 +146,7 @@ pub fn piece_numbers(
     places: &[i32; limits::PLACES_LENGTH],
     place: usize,
 ) -> [i32; limits::SHAPE_NUMBERS]
-    requires { ⌜ Piece (storeOf (now shapes) (now places)) place ⌝ }
+    requires { ⌜ PlacedPiece (storeOf (now shapes) (now places)) place ⌝ }
     ensures { λ r. ⌜ Numbers (storeOf (now (shapes .entry)) (now (places .entry))) place r ⌝ }
 {
     let pose = pose_of(shapes, places, place);
@@ -159,7 +159,7 @@ pub fn piece_count(
     places: &[i32; limits::PLACES_LENGTH],
     place: usize,
 ) -> usize
-    requires { ⌜ Piece (storeOf (now shapes) (now places)) place ⌝ }
+    requires { ⌜ PlacedPiece (storeOf (now shapes) (now places)) place ⌝ }
     ensures { λ r. ⌜ (r ≡ countAt (storeOf (now (shapes .entry)) (now (places .entry))) place) × (r ≤ Limits.corners) ⌝ }
 {
     let pose = pose_of(shapes, places, place);
@@ -173,7 +173,7 @@ pub(crate) fn piece_ends(
     place: usize,
     axis: usize,
 ) -> Ends
-    requires { ⌜ Piece (storeOf (now shapes) (now places)) place × (axis < 3) ⌝ }
+    requires { ⌜ PlacedPiece (storeOf (now shapes) (now places)) place × (axis < 3) ⌝ }
     ensures { λ r. ⌜ EndsAt (storeOf (now (shapes .entry)) (now (places .entry))) place axis r ⌝ }
 {
     let pose = pose_of(shapes, places, place);
@@ -188,7 +188,7 @@ fn apart_on(
     q: usize,
     axis: usize,
 ) -> bool
-    requires { ⌜ Piece (storeOf (now shapes) (now places)) p × Piece (storeOf (now shapes) (now places)) q × (axis < 3) ⌝ }
+    requires { ⌜ PlacedPiece (storeOf (now shapes) (now places)) p × PlacedPiece (storeOf (now shapes) (now places)) q × (axis < 3) ⌝ }
     ensures { λ r. ⌜ Decides r (ApartOn (storeOf (now (shapes .entry)) (now (places .entry))) p q axis) ⌝ }
 {
     let a = piece_ends(shapes, places, p, axis);
@@ -210,7 +210,7 @@ pub fn boxes_apart(
     p: usize,
     q: usize,
 ) -> bool
-    requires { ⌜ Piece (storeOf (now shapes) (now places)) p × Piece (storeOf (now shapes) (now places)) q ⌝ }
+    requires { ⌜ PlacedPiece (storeOf (now shapes) (now places)) p × PlacedPiece (storeOf (now shapes) (now places)) q ⌝ }
     ensures { λ r. ⌜ Decides r (Apart (storeOf (now (shapes .entry)) (now (places .entry))) p q) ⌝ }
 {
     let mut axis = 0;

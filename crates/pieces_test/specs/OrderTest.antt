@@ -19,12 +19,12 @@ use Rattle.limits.specs.Decides.{Decides}
 use Rattle.limits.specs.DecidesLaws.{decides-once}
 use Rattle.space.specs.Lists.{InReach}
 use Rattle.pieces.specs.IndexLaws.{some-decided}
-use Rattle.pieces.specs.Pieces.{Store, storeOf, countIn, cornersOf, shapeNumber, heldIn, turnIn, shapeAt, Taken, Loaded, ShapesInOrder, PlaceInOrder, PlacesInOrder, PiecesInOrder}
+use Rattle.pieces.specs.Pieces.{Store, storeOf, countIn, cornersOf, shapeValue, heldIn, turnIn, shapeAt, Taken, Loaded, ShapesInOrder, PlaceInOrder, PlacesInOrder, PiecesInOrder}
 
 -- ---- a part of a list of numbers
 
 -- count numbers from start on are within the reach of shapes and offsets
-pub record Near (numbers : List ℤ) (start count : ℕ) : Type 0 where
+pub record NearFrom (numbers : List ℤ) (start count : ℕ) : Type 0 where
   pub all : (k : ℕ) → k < count → Within Limits.shapeReach (getD numbers (start + k) (pos 0))
 
 module _ (numbers : List ℤ) (start count : ℕ) (fits : start + count ≤ length numbers) where
@@ -34,14 +34,14 @@ module _ (numbers : List ℤ) (start count : ℕ) (fits : start + count ≤ leng
   part-at : (k : ℕ) → k < count → getD (take count (drop start numbers)) k (pos 0) ≡ getD numbers (start + k) (pos 0)
   part-at k h = rw (getD-take, getD-drop)
 
-  near-whole : {r : Bool} → Decides r (InReach Limits.shapeReach (take count (drop start numbers))) → Decides r (Near numbers start count)
+  near-whole : {r : Bool} → Decides r (InReach Limits.shapeReach (take count (drop start numbers))) → Decides r (NearFrom numbers start count)
   near-whole d = record {
     yes = λ t. record { all = λ k h. subst (Within Limits.shapeReach) (part-at k h) (d .yes t .all k (let e = part-length in omega arith)) };
     no = λ f n. d .no f (record { all = λ k h. let l : k < count = (let e = part-length in omega arith) in subst (Within Limits.shapeReach) (sym (part-at k l)) (n .all k l) });
   }
 
   -- the part as code cuts it out, from its start to its end
-  pub near-part : {r : Bool} → Decides r (InReach Limits.shapeReach (take (start + count - start) (drop start numbers))) → Decides r (Near numbers start count)
+  pub near-part : {r : Bool} → Decides r (InReach Limits.shapeReach (take (start + count - start) (drop start numbers))) → Decides r (NearFrom numbers start count)
   near-part d = near-whole (rw add-sub-cancel-left at d)
 
 -- ---- shapes
@@ -49,7 +49,7 @@ module _ (numbers : List ℤ) (start count : ℕ) (fits : start + count ≤ leng
 -- what is asked of one shape
 pub record ShapeInOrder (d : Store) (s : ℕ) : Type 0 where
   pub few : Numbered (Limits.corners + 1) (countIn (d .shapes) s)
-  pub near : (k : ℕ) → k < 3 * cornersOf d s → Within Limits.shapeReach (shapeNumber d s k)
+  pub near : (k : ℕ) → k < 3 * cornersOf d s → Within Limits.shapeReach (shapeValue d s k)
 
 pub every-shape : {d : Store} → ((s : ℕ) → s < Limits.shapes → ShapeInOrder d s) → ShapesInOrder d
 every-shape all = record { few = λ s h. all s h .few; near = λ s k h. all s h .near k }
@@ -59,7 +59,7 @@ one-shape o s h = record { few = o .few s h; near = λ k. o .near s k h }
 
 -- a shape that has few enough corners is in order where its numbers are near
 pub shape-decided : {r : Bool} (d : Store) (s count : ℕ) → Numbered (Limits.corners + 1) (countIn (d .shapes) s) → count ≡ cornersOf d s
-    → Decides r (Near (d .shapes) (s * Limits.shapeCells + 1) (3 * count)) → Decides r (ShapeInOrder d s)
+    → Decides r (NearFrom (d .shapes) (s * Limits.shapeCells + 1) (3 * count)) → Decides r (ShapeInOrder d s)
 shape-decided d s count few e n = record {
   yes = λ t. record { few = few; near = λ k h. n .yes t .all k (omega arith) };
   no = λ f o. n .no f (record { all = λ k h. o .near k (omega arith) });
@@ -107,7 +107,7 @@ place-decided d p s l n = record {
   no = λ f o. n .no f (record { turn = o .turn; offset = o .offset });
 }
 
-pub placed-decided : {r : Bool} (places : List ℤ) (p : ℕ) → Numbered Limits.turns (turnIn places p) → Decides r (Near places (Limits.placeCells * p + 2) 3) → Decides r (PlacedInOrder places p)
+pub placed-decided : {r : Bool} (places : List ℤ) (p : ℕ) → Numbered Limits.turns (turnIn places p) → Decides r (NearFrom places (Limits.placeCells * p + 2) 3) → Decides r (PlacedInOrder places p)
 placed-decided places p t n = record {
   yes = λ e. record { turn = t; offset = n .yes e .all };
   no = λ f o. n .no f (record { all = o .offset });

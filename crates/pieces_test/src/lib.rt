@@ -7,7 +7,7 @@ ghost use lib.ListN.{length};
 ghost use Rattle.limits.specs.Limits;
 ghost use Rattle.limits.specs.Decides.{Decides};
 ghost use Rattle.pieces.specs.Pieces.{storeOf, Taken, Loaded, ShapesInOrder, PlaceInOrder, PlacesInOrder, PiecesInOrder, Sized};
-ghost use Rattle.pieces_test.specs.OrderTest.{Near, ShapeInOrder, PlaceKept, PlacedInOrder};
+ghost use Rattle.pieces_test.specs.OrderTest.{NearFrom, ShapeInOrder, PlaceKept, PlacedInOrder};
 use pieces::index::index_of;
 use pieces::taking::is_taken;
 use space::in_reach;
@@ -128,7 +128,7 @@ pub fn is_loaded(shapes: &[i32; limits::SHAPES_LENGTH], shape: usize) -> bool
 // Whether a part of a list of numbers is within the reach of shapes and offsets.
 fn part_near(numbers: &[i32], start: usize, count: usize) -> bool
     requires { ⌜ start + count ≤ length (now numbers) ⌝ }
-    ensures { λ r. ⌜ Decides r (Near (now (numbers .entry)) start count) ⌝ }
+    ensures { λ r. ⌜ Decides r (NearFrom (now (numbers .entry)) start count) ⌝ }
 {
     let end = start + count;
     in_reach(&numbers[start..end], limits::SHAPE_REACH)

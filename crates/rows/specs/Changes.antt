@@ -8,7 +8,7 @@ use native.Mathlib.Omega.{arith}
 use lib.ListN.{length, getD, set, length-set}
 use lib.Seq.{getD-set-same, getD-set-other, ext-getD}
 use Rattle.limits.specs.Limits
-use Rattle.rows.specs.Rows.{cell, rowAt, Cleared, Put}
+use Rattle.rows.specs.Rows.{cell, rowAt, Cleared, RowPut}
 use Rattle.rows.specs.Cells.{cell-once, cell-of}
 use Rattle.ints.specs.Cases.{by-same}
 
@@ -30,7 +30,7 @@ row-still rows low high v a b n h k e =
     (λ d. getD-set-other rows (cell low high) (cell a b) v Limits.noRow d ∙ e)
 
 pub put : (rows : List ℕ) (low high v : ℕ) → length rows ≡ Limits.rows → low < Limits.places → high < Limits.places
-    → Put low high v rows (set rows (cell low high) v)
+    → RowPut low high v rows (set rows (cell low high) v)
 put rows low high v n h k = record {
   size = length-set rows (cell low high) v;
   here = row-same rows low high v n h k;
@@ -111,7 +111,7 @@ cleared-once {p} n c d =
     (λ e. c .gone low high h k (inr e) ∙ sym (d .gone low high h k (inr e)))
     (λ nf. c .kept low high h k ne nf ∙ sym (d .kept low high h k ne nf))))
 
-pub put-once : {low high v : ℕ} {before a b : List ℕ} → length before ≡ Limits.rows → Put low high v before a → Put low high v before b → a ≡ b
+pub put-once : {low high v : ℕ} {before a b : List ℕ} → length before ≡ Limits.rows → RowPut low high v before a → RowPut low high v before b → a ≡ b
 put-once {low} {high} n p q =
     rows-once (p .size ∙ n) (q .size ∙ n)
     (λ i j h k.

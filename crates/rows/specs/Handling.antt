@@ -10,7 +10,7 @@ use lib.ListN.{length, getD, replicate, length-replicate, getD-replicate}
 use Rattle.limits.specs.Limits
 use Rattle.pieces.specs.Pieces.{Taken, OthersStay}
 use Rattle.pieces.specs.Taking.{by-taken}
-use Rattle.rows.specs.Rows.{PairOf, rowAt, Verdict, RowsInOrder, Cleared, Put, Names, Joins, Handled}
+use Rattle.rows.specs.Rows.{PairOf, rowAt, Verdict, RowsInOrder, Cleared, RowPut, Names, Joins, Handled}
 use Rattle.rows.specs.Cells.{cell-below}
 use Rattle.ints.specs.Cases.{by-same, by-less}
 use Rattle.rows.specs.Changes.{rows-once}
@@ -120,7 +120,7 @@ module _ {Right : ℕ → ℕ → ℕ → Type 0} {places : List ℤ} {p : ℕ} 
       no-pair (inr s) o (inr (c, e)) = let r = o .rising in omega arith
 
   -- the row of p and n is put
-  pub handled-put : {n low high v : ℕ} {before rows after : List ℕ} → PairOf places low high → Joins p n low high → Right low high v → Put low high v rows after
+  pub handled-put : {n low high v : ℕ} {before rows after : List ℕ} → PairOf places low high → Joins p n low high → Right low high v → RowPut low high v rows after
       → Handled Right places p n before rows → Handled Right places p (n + 1) before after
   handled-put {n} {low} {high} {v} {before} {rows} {after} o j good put d = record {
     size = put .size ∙ d .size;

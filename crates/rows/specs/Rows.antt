@@ -41,7 +41,7 @@ pub record Cleared (p : ℕ) (before after : List ℕ) : Type 0 where
   pub kept : (low high : ℕ) → low < Limits.places → high < Limits.places → (low ≡ p → ⊥) → (high ≡ p → ⊥) → rowAt after low high ≡ rowAt before low high
 
 -- the row of the places low and high is v now, and "every other row stays"
-pub record Put (low high v : ℕ) (before after : List ℕ) : Type 0 where
+pub record RowPut (low high v : ℕ) (before after : List ℕ) : Type 0 where
   pub size : length after ≡ length before
   pub here : rowAt after low high ≡ v
   pub kept : (a b : ℕ) → a < Limits.places → b < Limits.places → ((a ≡ low) × (b ≡ high) → ⊥) → rowAt after a b ≡ rowAt before a b

@@ -5,7 +5,7 @@ ghost use Prim.Native.Nat.{_<_, _/_, _%_};
 ghost use lib.ListN.{length, replicate};
 ghost use Rattle.limits.specs.Limits;
 ghost use Rattle.limits.specs.Decides.{Decides};
-ghost use Rattle.rows.specs.Rows.{PairOf, RowsInOrder, Cleared, Put};
+ghost use Rattle.rows.specs.Rows.{PairOf, RowsInOrder, Cleared, RowPut};
 ghost use Rattle.rows.specs.Cells.{CellInOrder};
 use pieces::taking::is_taken;
 
@@ -75,7 +75,7 @@ pub fn clear_place(rows: &mut [u8; limits::ROWS], place: usize)
 // The row of a pair set.
 pub fn put_row(rows: &mut [u8; limits::ROWS], low: usize, high: usize, v: u8)
     requires { ⌜ (low < high) × (high < Limits.places) ⌝ }
-    ensures { λ _. ⌜ Put low high v (now (rows .entry)) (now (rows .exit)) ⌝ }
+    ensures { λ _. ⌜ RowPut low high v (now (rows .entry)) (now (rows .exit)) ⌝ }
 {
     sized_rows(rows);
     rows[low * limits::PLACES + high] = v;

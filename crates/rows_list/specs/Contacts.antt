@@ -13,7 +13,7 @@ use Rattle.rows_list.specs.declared.Listed.the-variants.{Rows, Refused}
 
 -- "rows 2 and 3"
 abbrev pub contact : ℕ → Bool
-contact v = eqb v 2 || eqb v 3
+contact v = eqb v Limits.touching || eqb v Limits.penetrating
 
 -- "as three bytes (lower place, higher place, verdict)": what the row v at k is listed as, if it is listed
 abbrev pub onlyIf : Bool → List ℕ → List ℕ

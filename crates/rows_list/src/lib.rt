@@ -46,10 +46,10 @@ fn count_contacts(rows: &[u8; limits::ROWS]) -> usize
 fn one_if_contact(v: u8) -> usize
     ensures { λ r. ⌜ r ≡ oneIf (contact v) ⌝ }
 {
-    if v == 2 {
+    if v == limits::TOUCHING {
         return 1;
     }
-    if v == 3 { 1 } else { 0 }
+    if v == limits::PENETRATING { 1 } else { 0 }
 }
 
 // The contacts written to room that is long enough, in rising order of the cells, which is that of the two places.

@@ -12,13 +12,13 @@ use Rattle.limits.specs.Limits
 use Rattle.space.specs.Verdicts.{VerdictIs}
 use Rattle.space.specs.Exclusion.{verdict-once}
 use Rattle.space.specs.Lists.{Placed}
-use Rattle.rows.specs.Rows.{Verdict, Put, Handled}
+use Rattle.rows.specs.Rows.{Verdict, RowPut, Handled}
 use Rattle.rows.specs.Handling.{handled-skip, handled-put}
 use Rattle.verdict.specs.Answers.{Carries}
 use Rattle.verdict.specs.declared.Answer.{Answer}
 use Rattle.pieces.specs.Pieces.{Store, pieceAt, countAt, Taken}
 use Rattle.pieces.specs.Store.{piece-placed, list-length, SameAt, same-piece, same-low, same-high}
-use Rattle.pieces.specs.Boxes.{Apart, Piece, Numbers}
+use Rattle.pieces.specs.Boxes.{Apart, PlacedPiece, Numbers}
 use Rattle.rows_right.specs.Right.{RowRight}
 
 pub right-once : (d : Store) (i j : ℕ) {u v : ℕ} → RowRight d i j u → RowRight d i j v → u ≡ v
@@ -56,10 +56,10 @@ pub record OneMore (d : Store) (p n : ℕ) (before after : List ℕ) : Type 0 wh
 pub one-skipped : (d : Store) {p n : ℕ} {rows : List ℕ} → (Taken (d .places) n → ⊥) ⊎ (n ≡ p) → OneMore d p n rows rows
 one-skipped d f = record { step = λ first h. handled-skip f h }
 
-pub one-below : (d : Store) {p n v : ℕ} {before after : List ℕ} → n < p → Taken (d .places) n → Taken (d .places) p → RowRight d n p v → Put n p v before after → OneMore d p n before after
+pub one-below : (d : Store) {p n v : ℕ} {before after : List ℕ} → n < p → Taken (d .places) n → Taken (d .places) p → RowRight d n p v → RowPut n p v before after → OneMore d p n before after
 one-below d l t u r k = record { step = λ first h. handled-put (record { rising = l; first = t; second = u }) (inr (refl, refl)) r k h }
 
-pub one-above : (d : Store) {p n v : ℕ} {before after : List ℕ} → p < n → Taken (d .places) n → Taken (d .places) p → RowRight d p n v → Put p n v before after → OneMore d p n before after
+pub one-above : (d : Store) {p n v : ℕ} {before after : List ℕ} → p < n → Taken (d .places) n → Taken (d .places) p → RowRight d p n v → RowPut p n v before after → OneMore d p n before after
 one-above d l t u r k = record { step = λ first h. handled-put (record { rising = l; first = u; second = t }) (inl (refl, refl)) r k h }
 
 -- ---- the row by the verdict of the two pieces
@@ -77,7 +77,7 @@ carries-at {A} {B} {P} {Q} {r} ea eb h = (h .0, subst (λ (X : List ℤ). Carrie
 pub front : {d : Store} {p n : ℕ} {a : List ℤ} → Numbers d p a → n ≡ countAt d p → take (3 * n) a ≡ pieceAt d p
 front {a} k e = ap (λ m. take (3 * m) a) e ∙ k .is
 
-pub front-placed : {d : Store} {p n : ℕ} {a : List ℤ} → Piece d p → Numbers d p a → n ≡ countAt d p → Placed (take (3 * n) a)
+pub front-placed : {d : Store} {p n : ℕ} {a : List ℤ} → PlacedPiece d p → Numbers d p a → n ≡ countAt d p → Placed (take (3 * n) a)
 front-placed {d} {p} q k e = subst Placed (sym (front k e)) (piece-placed (q .order) p (q .taken))
 
 pub front-length : {d : Store} {p n : ℕ} {a : List ℤ} → Numbers d p a → n ≡ countAt d p → 3 * n ≡ length (take (3 * n) a)

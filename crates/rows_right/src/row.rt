@@ -5,7 +5,7 @@ ghost use Prim.Native.Nat.{_<_};
 ghost use Rattle.limits.specs.Limits;
 ghost use Rattle.rows.specs.Rows.{Handled};
 ghost use Rattle.pieces.specs.Pieces.{storeOf, pieceAt};
-ghost use Rattle.pieces.specs.Boxes.{Piece};
+ghost use Rattle.pieces.specs.Boxes.{PlacedPiece};
 ghost use Rattle.verdict.specs.Answers.{Carries};
 ghost use Rattle.rows_right.specs.Right.{RowRight};
 ghost use Rattle.rows_right.specs.RowLaws.{OneMore};
@@ -24,11 +24,11 @@ fn row_of(
     low: usize,
     high: usize,
 ) -> u8
-    requires { ⌜ Piece (storeOf (now shapes) (now places)) low × Piece (storeOf (now shapes) (now places)) high ⌝ }
+    requires { ⌜ PlacedPiece (storeOf (now shapes) (now places)) low × PlacedPiece (storeOf (now shapes) (now places)) high ⌝ }
     ensures { λ r. ⌜ RowRight (storeOf (now (shapes .entry)) (now (places .entry))) low high r ⌝ }
 {
     if boxes_apart(shapes, places, low, high) {
-        return 0;
+        return limits::APART;
     }
     let answer = verdict_of(shapes, places, low, high);
     answer.verdict
@@ -41,7 +41,7 @@ pub fn verdict_of(
     first: usize,
     second: usize,
 ) -> Answer
-    requires { ⌜ Piece (storeOf (now shapes) (now places)) first × Piece (storeOf (now shapes) (now places)) second ⌝ }
+    requires { ⌜ PlacedPiece (storeOf (now shapes) (now places)) first × PlacedPiece (storeOf (now shapes) (now places)) second ⌝ }
     ensures { λ r. ⌜ (r .number ≡ 0) × Carries (pieceAt (storeOf (now (shapes .entry)) (now (places .entry))) first) (pieceAt (storeOf (now (shapes .entry)) (now (places .entry))) second) r ⌝ }
 {
     let n = piece_count(shapes, places, first);
@@ -58,7 +58,7 @@ pub fn put_rows(
     rows: &mut [u8; limits::ROWS],
     place: usize,
 )
-    requires { ⌜ Piece (storeOf (now shapes) (now places)) place ⌝ }
+    requires { ⌜ PlacedPiece (storeOf (now shapes) (now places)) place ⌝ }
     ensures { λ _. ⌜ Handled (RowRight (storeOf (now (shapes .entry)) (now (places .entry)))) (now (places .entry)) place Limits.places (now (rows .entry)) (now (rows .exit)) ⌝ }
 {
     let mut other = 0;
@@ -76,7 +76,7 @@ fn put_pair(
     place: usize,
     other: usize,
 )
-    requires { ⌜ Piece (storeOf (now shapes) (now places)) place × (other < Limits.places) ⌝ }
+    requires { ⌜ PlacedPiece (storeOf (now shapes) (now places)) place × (other < Limits.places) ⌝ }
     ensures { λ _. ⌜ OneMore (storeOf (now (shapes .entry)) (now (places .entry))) place other (now (rows .entry)) (now (rows .exit)) ⌝ }
 {
     if is_taken(places, other) {

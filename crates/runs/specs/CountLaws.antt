@@ -8,44 +8,45 @@ use lib.Dec.{eqb, ltb}
 use lib.IntN.{ℤ}
 use lib.Signed.{ltZ}
 use Rattle.limits.specs.Limits
-use Rattle.marks.specs.Marks.{Axis, Axes, axisOf, placeOf, sideOf, lowMark, highMark, valueOf, earlier, crossed, isOther, changed, changedMarks, Agree}
+use Rattle.marks.specs.Marks.{Axis, Axes, axisOf, markPlace, sideOf, lowMark, highMark, markValue, earlier, crossed, isOther, changed, changedMarks, Agree}
 use Rattle.ints.specs.Counts.{oneIf, sum-same, and-false}
 
-value-same : {a b : Axis} → Agree a b → (m : ℕ) → m < Limits.axisMarks → a .taken (placeOf m) ≡ true → valueOf a m ≡ valueOf b m
-value-same {a} {b} g m l t = ap₂ (λ (u v : ℤ). cond (eqb (sideOf m) 0) u v) (g .low (placeOf m) (omega arith) t) (g .high (placeOf m) (omega arith) t)
+value-same : {a b : Axis} → Agree a b → (m : ℕ) → m < Limits.axisMarks → a .taken (markPlace m) ≡ true → markValue a m ≡ markValue b m
+value-same {a} {b} g m l t = ap₂ (λ (u v : ℤ). cond (eqb (sideOf m) 0) u v) (g .low (markPlace m) (omega arith) t) (g .high (markPlace m) (omega arith) t)
 
-earlier-same : {a b : Axis} → Agree a b → (m n : ℕ) → m < Limits.axisMarks → n < Limits.axisMarks → a .taken (placeOf m) ≡ true → a .taken (placeOf n) ≡ true → earlier a m n ≡ earlier b m n
+earlier-same : {a b : Axis} → Agree a b → (m n : ℕ) → m < Limits.axisMarks → n < Limits.axisMarks → a .taken (markPlace m) ≡ true → a .taken (markPlace n) ≡ true → earlier a m n ≡ earlier b m n
 unfolding earlier
 earlier-same {a} {b} g m n hm hn tm tn =
-    ap₂ (λ (u v : ℤ). cond (ltZ u v) true (cond (ltZ v u) false (cond (ltb (sideOf m) (sideOf n)) true (cond (ltb (sideOf n) (sideOf m)) false (ltb (placeOf m) (placeOf n))))))
+    ap₂ (λ (u v : ℤ). cond (ltZ u v) true (cond (ltZ v u) false (cond (ltb (sideOf m) (sideOf n)) true (cond (ltb (sideOf n) (sideOf m)) false (ltb (markPlace m) (markPlace n))))))
     (value-same g m hm tm) (value-same g n hn tn)
 
 module _ {old new old′ new′ : Axis} (place : ℕ) (hp : place < Limits.places) (o : Agree old old′) (n : Agree new new′)
     (stay : (p : ℕ) → p < Limits.places → old .taken p ≡ new .taken p) (here : old .taken place ≡ true) where
-  crossed-same : (own other : ℕ) → own < Limits.axisMarks → placeOf own ≡ place → other < Limits.axisMarks → old .taken (placeOf other) ≡ true → crossed old new own other ≡ crossed old′ new′ own other
+  crossed-same : (own other : ℕ) → own < Limits.axisMarks → markPlace own ≡ place → other < Limits.axisMarks → old .taken (markPlace other) ≡ true
+      → crossed old new own other ≡ crossed old′ new′ own other
   crossed-same own other h e k t =
-      let s : old .taken (placeOf own) ≡ true = ap (old .taken) e ∙ here in
+      let s : old .taken (markPlace own) ≡ true = ap (old .taken) e ∙ here in
       ap₂ (λ (u v : Bool). oneIf (xor u v))
       (earlier-same o own other h k s t)
-      (earlier-same n own other h k (sym (stay (placeOf own) (omega arith)) ∙ s) (sym (stay (placeOf other) (omega arith)) ∙ t))
+      (earlier-same n own other h k (sym (stay (markPlace own) (omega arith)) ∙ s) (sym (stay (markPlace other) (omega arith)) ∙ t))
 
   changed-same : changed old new place ≡ changed old′ new′ place
   unfolding changed
-  changed-same = sum-same Limits.axisMarks _ _ (λ other k. each other k (old .taken (placeOf other)) refl)
+  changed-same = sum-same Limits.axisMarks _ _ (λ other k. each other k (old .taken (markPlace other)) refl)
     where
-      each : (other : ℕ) → other < Limits.axisMarks → (b : Bool) → old .taken (placeOf other) ≡ b
+      each : (other : ℕ) → other < Limits.axisMarks → (b : Bool) → old .taken (markPlace other) ≡ b
           → cond (isOther old place other) (crossed old new (lowMark place) other + crossed old new (highMark place) other) 0
           ≡ cond (isOther old′ place other) (crossed old′ new′ (lowMark place) other + crossed old′ new′ (highMark place) other) 0
       each other k true t =
-          ap₂ (λ (c : Bool) (v : ℕ). cond ((ltb other Limits.axisMarks && c) && not (eqb (placeOf other) place)) v 0)
-          (o .taken (placeOf other) (omega arith))
+          ap₂ (λ (c : Bool) (v : ℕ). cond ((ltb other Limits.axisMarks && c) && not (eqb (markPlace other) place)) v 0)
+          (o .taken (markPlace other) (omega arith))
           (ap₂ _+_ (crossed-same (lowMark place) other (omega arith) (omega arith) k t) (crossed-same (highMark place) other (omega arith) (omega arith) k t))
       each other k false t =
           none old (crossed old new (lowMark place) other + crossed old new (highMark place) other) t
-          ∙ sym (none old′ (crossed old′ new′ (lowMark place) other + crossed old′ new′ (highMark place) other) (sym (o .taken (placeOf other) (omega arith)) ∙ t))
+          ∙ sym (none old′ (crossed old′ new′ (lowMark place) other + crossed old′ new′ (highMark place) other) (sym (o .taken (markPlace other) (omega arith)) ∙ t))
         where
-          none : (a : Axis) (v : ℕ) → a .taken (placeOf other) ≡ false → cond (isOther a place other) v 0 ≡ 0
-          none a v f = ap (λ (c : Bool). cond (c && not (eqb (placeOf other) place)) v 0) (ap (λ (c : Bool). ltb other Limits.axisMarks && c) f ∙ and-false (ltb other Limits.axisMarks))
+          none : (a : Axis) (v : ℕ) → a .taken (markPlace other) ≡ false → cond (isOther a place other) v 0 ≡ 0
+          none a v f = ap (λ (c : Bool). cond (c && not (eqb (markPlace other) place)) v 0) (ap (λ (c : Bool). ltb other Limits.axisMarks && c) f ∙ and-false (ltb other Limits.axisMarks))
 
 -- over the three axes
 pub count-same : {old new old′ new′ : Axes} (place : ℕ) → place < Limits.places → ((axis : ℕ) → axis < 3 → Agree (axisOf old axis) (axisOf old′ axis))

@@ -9,7 +9,7 @@ use lib.IntN.{ℤ, pos, natAbs}
 use lib.ListN.{length, getD}
 use Rattle.turns.specs.Turns.{placedAt}
 use Rattle.pieces.specs.declared.placement.Placement.{Placement}
-use Rattle.pieces.specs.Pieces.{Store, cornersOf, shapeNumber, shapeAt, offsetAt, countAt, placedCorner, listTo, pieceAt, leastTo, greatestTo, lowAt, highAt}
+use Rattle.pieces.specs.Pieces.{Store, cornersOf, shapeValue, shapeAt, offsetAt, countAt, placedCorner, listTo, pieceAt, leastTo, greatestTo, lowAt, highAt}
 use Rattle.pieces.specs.Placed.{placed-eq}
 use Rattle.pieces.specs.Store.{list-length, list-at, list-same, least-same, greatest-same}
 use Rattle.rows_right.specs.Right.{RowRight}
@@ -27,14 +27,14 @@ module _ {d : Store} {p : ℕ} {q : Placement} {numbers : List ℤ} (k : PieceIs
   numbers-are : 3 * countAt d p ≡ length numbers
   numbers-are = subst (λ n. 3 * cornersOf d n ≡ length numbers) (sym (k .shape)) (l .count)
 
-  number-is : (i : ℕ) → i < length numbers → shapeNumber d (shapeAt d p) i ≡ getD numbers i (pos 0)
-  number-is i h = subst (λ n. shapeNumber d n i ≡ getD numbers i (pos 0)) (sym (k .shape)) (l .each i h)
+  number-is : (i : ℕ) → i < length numbers → shapeValue d (shapeAt d p) i ≡ getD numbers i (pos 0)
+  number-is i h = subst (λ n. shapeValue d n i ≡ getD numbers i (pos 0)) (sym (k .shape)) (l .each i h)
 
   placed-is : (i : ℕ) → i < length numbers → placedCorner d p (i / 3) (i % 3) ≡ placedNumber numbers q i
   unfolding placedCorner
   placed-is i h =
       let n = numbers-are in
-      let at : ℕ → ℤ = shapeNumber d (shapeAt d p) in
+      let at : ℕ → ℤ = shapeValue d (shapeAt d p) in
       ap (λ u. placedAt u (i % 3) (at (3 * (i / 3))) (at (3 * (i / 3) + 1)) (at (3 * (i / 3) + 2)) (offsetAt d p (i % 3))) (k .turn)
       ∙ placed-eq (natAbs (q .turn)) (i % 3)
       (number-is (3 * (i / 3)) (omega arith))

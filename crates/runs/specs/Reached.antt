@@ -7,7 +7,7 @@ use lib.IntN.{ℤ, pos, natAbs}
 use lib.ListN.{length, getD}
 use Rattle.limits.specs.Limits
 use Rattle.pieces.specs.declared.placement.Placement.{Placement}
-use Rattle.pieces.specs.Pieces.{Store, Taken, cornersOf, shapeNumber, shapeAt, turnAt, offsetAt}
+use Rattle.pieces.specs.Pieces.{Store, Taken, cornersOf, shapeValue, shapeAt, turnAt, offsetAt}
 use Rattle.desk_state.specs.Desk.{Desk}
 use Rattle.desk.specs.Commands.{numberOf, Started, Does}
 use Rattle.desk.specs.declared.Outcome.{Outcome}
@@ -26,7 +26,7 @@ pub data Reached : Desk → List Entry → Type 0 where
 -- the shape s has these numbers, three a corner; with none it is not loaded
 pub record ShapeIs (d : Store) (s : ℕ) (numbers : List ℤ) : Type 0 where
   pub count : 3 * cornersOf d s ≡ length numbers
-  pub each : (k : ℕ) → k < length numbers → shapeNumber d s k ≡ getD numbers k (pos 0)
+  pub each : (k : ℕ) → k < length numbers → shapeValue d s k ≡ getD numbers k (pos 0)
 
 pub record PieceIs (d : Store) (p : ℕ) (q : Placement) : Type 0 where
   pub taken : Taken (d .places) p

@@ -26,7 +26,7 @@ use Rattle.desk_state.specs.Desk.{Desk, InOrder, loadedAt}
 use Rattle.desk_put.specs.Handled.{PutDown, Emptied}
 use Rattle.desk_put.specs.PutLaws.{put-shape, put-names}
 use Rattle.desk_load.specs.LoadLaws.{in-place-agrees}
-use Rattle.desk.specs.Commands.{numberOf, countOf, Commanded, loadRefusals, placeRefusals, moveRefusals, movedTo, removeRefusals, Does}
+use Rattle.desk.specs.Commands.{numberOf, outcomeCount, Commanded, loadRefusals, placeRefusals, moveRefusals, movedTo, removeRefusals, Does}
 use Rattle.desk.specs.declared.Command.{Command}
 use Rattle.desk.specs.declared.Command.the-variants.{Start, Load, Place, Move, Remove}
 use Rattle.desk.specs.declared.Outcome.{Outcome}
@@ -44,7 +44,7 @@ use Rattle.runs.specs.Stands.{Stands, SameStanding, Changes}
 -- ---- every command keeps what stands
 -- refused: the desk and the log are as they were. Accepted: the command's own law
 commanded : {l : List Refusal} {Accepted : ℕ → Type 0} {d after : Desk} (log : List Entry) (e : Entry) (r : Outcome) → Commanded l Accepted d after r → Standing d (planOf log)
-    → (Lowest l 0 → Accepted (countOf r) → Standing after (planAfter e (planOf log))) → Standing after (planOf (logged (numberOf r) e log))
+    → (Lowest l 0 → Accepted (outcomeCount r) → Standing after (planAfter e (planOf log))) → Standing after (planOf (logged (numberOf r) e log))
 commanded log e (Done n) k old f = f (k .refusal) (k .done refl)
 commanded log e (Refused zero) k old f = absurd (omega (arith, k .named))
 commanded log e (Refused (suc n)) k old f = subst (λ (x : Desk). Standing x (planOf log)) (sym (k .kept (omega arith))) old
@@ -242,7 +242,7 @@ module _ (plan : Plan) (place turn : ℤ) (o : Offset) (numbers : List ℤ) wher
       stay : (p : ℕ) → p < Limits.places → takenAt (before .store) p ≡ takenAt (after .store) p
       stay p h = axis-is s 0 (omega arith) .taken p h ∙ move-held p ∙ sym (axis-is u 0 (omega arith) .taken p h)
 
-changes-by : {before after : Desk} (c : Command) (numbers : List ℤ) (r : Outcome) → Does c numbers before after r → numberOf r ≡ 0 → Changes (c with numbers) before after (countOf r)
+changes-by : {before after : Desk} (c : Command) (numbers : List ℤ) (r : Outcome) → Does c numbers before after r → numberOf r ≡ 0 → Changes (c with numbers) before after (outcomeCount r)
 changes-by Start numbers r k e = let a = k .done e in record { rows = λ low high h l f g. absurd (f tt); counted = λ log h. a .1; most = none-counted (a .1) }
 changes-by (Load shape) numbers r k e =
     let a = k .done e in
@@ -257,21 +257,21 @@ changes-by (Move place turn o) numbers r k e =
     }
 changes-by (Remove place) numbers r k e = let a = k .done e in record { rows = a .0 .rows .kept; counted = λ log h. a .1; most = none-counted (a .1) }
 
-pub accepted-changes : {before after : Desk} (e : Entry) (r : Outcome) → Does (e .command) (e .numbers) before after r → numberOf r ≡ 0 → Changes e before after (countOf r)
+pub accepted-changes : {before after : Desk} (e : Entry) (r : Outcome) → Does (e .command) (e .numbers) before after r → numberOf r ≡ 0 → Changes e before after (outcomeCount r)
 accepted-changes e = changes-by (e .command) (e .numbers)
 
 -- refused: "desk, marks and room stay as they were", and the count is zero
 module _ {l : List Refusal} {Accepted : ℕ → Type 0} {before after : Desk} where
-  refused : (r : Outcome) → Commanded l Accepted before after r → 0 < numberOf r → (after ≡ before) × (countOf r ≡ 0)
+  refused : (r : Outcome) → Commanded l Accepted before after r → 0 < numberOf r → (after ≡ before) × (outcomeCount r ≡ 0)
   refused (Done n) k h = absurd (omega arith)
   refused (Refused n) k h = (k .kept h, refl)
 
-refused-by : {before after : Desk} (c : Command) (numbers : List ℤ) (r : Outcome) → Does c numbers before after r → 0 < numberOf r → (after ≡ before) × (countOf r ≡ 0)
+refused-by : {before after : Desk} (c : Command) (numbers : List ℤ) (r : Outcome) → Does c numbers before after r → 0 < numberOf r → (after ≡ before) × (outcomeCount r ≡ 0)
 refused-by Start numbers r k h = refused r k h
 refused-by (Load shape) numbers r k h = refused r k h
 refused-by (Place place q) numbers r k h = refused r k h
 refused-by (Move place turn o) numbers r k h = refused r k h
 refused-by (Remove place) numbers r k h = refused r k h
 
-pub refused-changes : {before after : Desk} (e : Entry) (r : Outcome) → Does (e .command) (e .numbers) before after r → 0 < numberOf r → (after ≡ before) × (countOf r ≡ 0)
+pub refused-changes : {before after : Desk} (e : Entry) (r : Outcome) → Does (e .command) (e .numbers) before after r → 0 < numberOf r → (after ≡ before) × (outcomeCount r ≡ 0)
 refused-changes e = refused-by (e .command) (e .numbers)

@@ -24,7 +24,9 @@ pub fn run(
     codes: &[i32],
     numbers: &[i32],
 ) -> usize
-    ensures { λ r. ⌜ Runs (now (codes .entry)) (now (numbers .entry)) (deskOf (now (shapes .entry)) (now (places .entry)) (now (rows .entry)) (now (book .entry)) (now (marks .entry))) (deskOf (now (shapes .exit)) (now (places .exit)) (now (rows .exit)) (now (book .exit)) (now (marks .exit))) r ⌝ }
+    ensures { λ r. ⌜ Runs (now (codes .entry)) (now (numbers .entry))
+        (deskOf (now (shapes .entry)) (now (places .entry)) (now (rows .entry)) (now (book .entry)) (now (marks .entry)))
+        (deskOf (now (shapes .exit)) (now (places .exit)) (now (rows .exit)) (now (book .exit)) (now (marks .exit))) r ⌝ }
 {
     let mut i: usize = 0;
     let mut used: usize = 0;

@@ -72,7 +72,9 @@ pub fn tell(
     numbers: &[i32],
 ) -> usize
     requires { ⌜ codeNumbers ≤ length (now code) ⌝ }
-    ensures { λ r. ⌜ Told (commandsIn (now (code .entry)) (now (numbers .entry))) (deskOf (now (shapes .entry)) (now (places .entry)) (now (rows .entry)) (now (book .entry)) (now (marks .entry))) (deskOf (now (shapes .exit)) (now (places .exit)) (now (rows .exit)) (now (book .exit)) (now (marks .exit))) r ⌝ }
+    ensures { λ r. ⌜ Told (commandsIn (now (code .entry)) (now (numbers .entry)))
+        (deskOf (now (shapes .entry)) (now (places .entry)) (now (rows .entry)) (now (book .entry)) (now (marks .entry)))
+        (deskOf (now (shapes .exit)) (now (places .exit)) (now (rows .exit)) (now (book .exit)) (now (marks .exit))) r ⌝ }
 {
     let Coded::One(command) = command_of(code) else {
         return 0;

@@ -10,7 +10,7 @@ use lib.Ieee.{Float, nan, inf, fin, up, down}
 use lib.Ieee.Fits.{down-pos}
 use lib.Ieee.Exact.{HasValue}
 use Rattle.ints.specs.Laws.{negℤ-*ℤ}
-use Rattle.scans.specs.Floats.{signed, InSteps, NotFinite, NotWhole}
+use Rattle.scans.specs.Floats.{withSign, InSteps, NotFinite, NotWhole}
 use Rattle.scans.specs.Signs.{size-of}
 
 pub data Sized : Float → Bool → ℕ → ℕ → Type 0 where
@@ -54,12 +54,12 @@ pub under-one : {x : Float} {s : Bool} {a c : ℕ} → 0 < a → a < c → Sized
 under-one {a} {c} h l v = fraction (λ e. let k : a ≡ 0 = sym (mod-eq-of-lt l) ∙ e in omega arith) v
 
 -- ---- n steps
-signed-mul : (s : Bool) (n d : ℕ) → signed s (n * d) ≡ signed s n *ℤ pos d
+signed-mul : (s : Bool) (n d : ℕ) → withSign s (n * d) ≡ withSign s n *ℤ pos d
 signed-mul true n d = sym (negℤ-*ℤ (pos n) (pos d))
 signed-mul false n d = refl
 
-pub in-steps : {x : Float} {s : Bool} {n : ℕ} → Sized x s n 1 → InSteps x (signed s n)
-in-steps {s} {n} (sized {m} {e} v) = ap (signed s) (sym (mul-one (m * up e * 64)) ∙ v) ∙ signed-mul s n (down e)
+pub in-steps : {x : Float} {s : Bool} {n : ℕ} → Sized x s n 1 → InSteps x (withSign s n)
+in-steps {s} {n} (sized {m} {e} v) = ap (withSign s) (sym (mul-one (m * up e * 64)) ∙ v) ∙ signed-mul s n (down e)
 
 -- a fraction that leaves nothing
 pub quotient : {x : Float} {s : Bool} {a c : ℕ} → 0 < c → a % c ≡ 0 → Sized x s a c → Sized x s (a / c) 1

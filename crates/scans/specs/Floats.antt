@@ -10,15 +10,15 @@ use Rattle.limits.specs.Limits
 use Rattle.limits.specs.Lowest.{Refusal, _when_}
 
 -- a size with its sign: minus zero is 0
-abbrev pub signed : Bool → ℕ → ℤ
-signed true n = negℤ (pos n)
-signed false n = pos n
+abbrev pub withSign : Bool → ℕ → ℤ
+withSign true n = negℤ (pos n)
+withSign false n = pos n
 
 -- "its value times 64 is a whole number": the number z, both sides multiplied by the fraction's lower part
 abbrev pub InSteps : Float → ℤ → Type 0
 InSteps nan z = ⊥
 InSteps (inf s) z = ⊥
-InSteps (fin s m e) z = signed s (m * up e * Limits.steps) ≡ z *ℤ pos (down e)
+InSteps (fin s m e) z = withSign s (m * up e * Limits.steps) ≡ z *ℤ pos (down e)
 
 -- 16: "a float is infinite or not a number"
 abbrev pub NotFinite : Float → Type 0

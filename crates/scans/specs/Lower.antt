@@ -36,25 +36,25 @@ lower-none (suc m) (suc n) e = absurd
     (let k : min (suc m) (suc n) ≡ 0 = simp (ne-eqb (suc m) 0 (λ z. omega arith), ne-eqb (suc n) 0 (λ z. omega arith)) at e in omega arith)
 
 -- a refusal of both, and when it applies to the one and to the other
-record Both : Type 1 where
+record OfBoth : Type 1 where
   number : ℕ
   one : Type 0
   other : Type 0
 
-abbrev sides : (Both → Type 0) → List Both → List Refusal
+abbrev sides : (OfBoth → Type 0) → List OfBoth → List Refusal
 sides when-so [] = []
 sides when-so (r ∷ rest) = r .number when when-so r ∷ sides when-so rest
 
-abbrev Rising : ℕ → List Both → Type 0
-Rising k [] = Unit {0}
-Rising k (r ∷ rest) = (k < r .number) × Rising (r .number) rest
+abbrev RisingFrom : ℕ → List OfBoth → Type 0
+RisingFrom k [] = Unit {0}
+RisingFrom k (r ∷ rest) = (k < r .number) × RisingFrom (r .number) rest
 
-after : (when-so : Both → Type 0) (k : ℕ) (l : List Both) → Rising k l → (n : ℕ) → Lowest (sides when-so l) n → After k n
+after : (when-so : OfBoth → Type 0) (k : ℕ) (l : List OfBoth) → RisingFrom k l → (n : ℕ) → Lowest (sides when-so l) n → After k n
 after s k [] h n e = inl e
 after s k (r ∷ rest) h n (inl p) = inr (omega (arith, h .0, p .1))
 after s k (r ∷ rest) h n (inr p) = ⊎-elim (λ e. inl e) (λ l. inr (omega (arith, h .0))) (after s (r .number) rest (h .1) n (p .1))
 
-joined : (k : ℕ) (l : List Both) → Rising k l → (m n : ℕ) → Lowest (sides (λ r. r .one) l) m → Lowest (sides (λ r. r .other) l) n
+joined : (k : ℕ) (l : List OfBoth) → RisingFrom k l → (m n : ℕ) → Lowest (sides (λ r. r .one) l) m → Lowest (sides (λ r. r .other) l) n
     → Lowest (sides (λ r. r .one ⊎ r .other) l) (lowerOf m n)
 joined k [] h m n p q = ap (λ x. lowerOf x n) p ∙ q
 joined k (r ∷ rest) h m n (inl p) (inl q) = inl (inl (p .0), ap (λ x. lowerOf x n) (p .1) ∙ lower-left (r .number) n (omega (arith, h .0)) (inr (omega (arith, q .1))))
@@ -68,5 +68,5 @@ joined k (r ∷ rest) h m n (inr p) (inr q) = inr (⊎-elim (p .0) (q .0), joine
 pub together : (of on : (Float → Type 0) → Type 0) (m n : ℕ) → Lowest (refusals of) m → Lowest (refusals on) n → Lowest (refusals (λ C. of C ⊎ on C)) (lowerOf m n)
 together of on = joined 0 (at Limits.notFinite NotFinite ∷ at Limits.notWhole NotWhole ∷ at Limits.floatRange Beyond ∷ []) (omega arith, (omega arith, (omega arith, tt)))
   where
-    at : ℕ → (Float → Type 0) → Both
+    at : ℕ → (Float → Type 0) → OfBoth
     at n C = record { number = n; one = of C; other = on C }

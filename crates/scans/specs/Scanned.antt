@@ -9,7 +9,7 @@ use lib.IntN.{pos}
 use lib.Ieee.{Float}
 use Rattle.limits.specs.Limits
 use Rattle.limits.specs.Lowest.{Lowest}
-use Rattle.scans.specs.Floats.{signed, InSteps, refusals}
+use Rattle.scans.specs.Floats.{withSign, InSteps, refusals}
 use Rattle.scans.specs.declared.Scan.{Scan}
 use Rattle.scans.specs.declared.Point.{Point}
 use Rattle.scans.specs.declared.Scanned.{Scanned}
@@ -35,7 +35,7 @@ abbrev pub lowerOf : ℕ → ℕ → ℕ
 lowerOf a b = cond (eqb a Limits.done) b (cond (eqb b Limits.done) a (min a b))
 
 -- the whole number of steps n, with the sign s, is taken or out of range
-abbrev pub Taken : Bool → ℕ → Scan → Type 0
-Taken s n r =
+abbrev pub TakenAs : Bool → ℕ → Scan → Type 0
+TakenAs s n r =
     (Limits.shapeReach < n × (r ≡ record { number = Limits.floatRange; steps = pos 0 }))
-    ⊎ (n ≤ Limits.shapeReach × (r ≡ record { number = Limits.done; steps = signed s n }))
+    ⊎ (n ≤ Limits.shapeReach × (r ≡ record { number = Limits.done; steps = withSign s n }))

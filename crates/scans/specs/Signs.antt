@@ -7,7 +7,7 @@ use native.Mathlib.Omega.{arith}
 use native.Mathlib.Nat.{mul-pos}
 use lib.IntN.{ℤ, pos, negsuc, negℤ, natAbs, _*ℤ_, pos-ne-negsuc}
 use Rattle.ints.specs.Bounds.{natAbs-neg, natAbs-mul}
-use Rattle.scans.specs.Floats.{signed}
+use Rattle.scans.specs.Floats.{withSign}
 
 -- the sign of a number
 abbrev pub below : ℤ → Bool
@@ -18,7 +18,7 @@ not-minus : (n k : ℕ) → 0 < k → pos n ≡ negℤ (pos k) → ⊥
 not-minus n zero h e = omega arith
 not-minus n (suc k) h e = pos-ne-negsuc n k e
 
-pub sign-of : (s : Bool) (n d : ℕ) (z : ℤ) → 0 < d → (z ≡ pos 0 → ⊥) → signed s n ≡ z *ℤ pos d → s ≡ below z
+pub sign-of : (s : Bool) (n d : ℕ) (z : ℤ) → 0 < d → (z ≡ pos 0 → ⊥) → withSign s n ≡ z *ℤ pos d → s ≡ below z
 sign-of true n d (negsuc k) h f e = refl
 sign-of false n d (pos k) h f e = refl
 sign-of true n d (pos zero) h f e = absurd (f refl)
@@ -29,14 +29,14 @@ sign-of true n d (pos (suc k)) h f e = absurd (plus n (mul-pos (omega arith) h) 
     plus (suc n) {k} h e = pos-ne-negsuc k n (sym e)
 sign-of false n d (negsuc k) h f e = absurd (not-minus n (suc k * d) (mul-pos (omega arith) h) e)
 
-pub natAbs-signed : (s : Bool) (n : ℕ) → natAbs (signed s n) ≡ n
+pub natAbs-signed : (s : Bool) (n : ℕ) → natAbs (withSign s n) ≡ n
 natAbs-signed true n = natAbs-neg (pos n)
 natAbs-signed false n = refl
 
-pub size-of : (s : Bool) (n d : ℕ) (z : ℤ) → signed s n ≡ z *ℤ pos d → n ≡ natAbs z * d
+pub size-of : (s : Bool) (n d : ℕ) (z : ℤ) → withSign s n ≡ z *ℤ pos d → n ≡ natAbs z * d
 size-of s n d z e = sym (natAbs-signed s n) ∙ ap natAbs e ∙ natAbs-mul z (pos d)
 
 -- a number is its size with its sign
-pub own : (z : ℤ) → signed (below z) (natAbs z) ≡ z
+pub own : (z : ℤ) → withSign (below z) (natAbs z) ≡ z
 own (pos n) = refl
 own (negsuc n) = refl

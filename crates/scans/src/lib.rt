@@ -1,8 +1,9 @@
 // Floats to steps and back: scanned points, by their bit patterns, and the millimetres shown.
 // A float is in millimetres, IEEE 754 binary32; a step is a 64th of a millimetre.
+ghost use Prim.Native.Nat.{_/_, _%_, _≤_, _<_};
 ghost use mathlib.Core.Path.{_≡_};
-ghost use lib.Ieee.{binary32, ofBits};
-ghost use Rattle.scans.specs.Scanned.{Taken, lowerOf, ScannedAs, PointAs};
+ghost use lib.Ieee.{binary32, ofBits, ofFields};
+ghost use Rattle.scans.specs.Scanned.{TakenAs, lowerOf, ScannedAs, PointAs};
 ghost use Rattle.scans.specs.Shown.{PatternOf, ShownAs};
 
 // A scanned point, in millimetres.
@@ -40,6 +41,9 @@ const LEADING: u32 = 8388608;
 // The exponent of what is infinite or not a number.
 const NOT_A_VALUE: u32 = 255;
 
+// The pattern that is given of what is not a number; every other would do.
+const NAN: u32 = 2143289344;
+
 // From this exponent on the last digit counts whole steps; there are at least LEADING of them, which is beyond the range.
 const WHOLE: u32 = 144;
 
@@ -50,7 +54,7 @@ const REACH: u32 = limits::SHAPE_REACH as u32;
 
 // The whole number of steps `size`, with its sign, if it is in range.
 fn taken(minus: bool, size: u32) -> Scan
-    ensures { λ r. ⌜ Taken minus size r ⌝ }
+    ensures { λ r. ⌜ TakenAs minus size r ⌝ }
 {
     if REACH < size {
         return Scan {
@@ -71,6 +75,39 @@ fn taken(minus: bool, size: u32) -> Scan
     }
 }
 
+// Less than one step in size: a zero of either sign, or no whole number of steps.
+fn under_one_step(pattern: u32) -> Scan
+    requires { ⌜ pattern % 2147483648 / 8388608 < 121 ⌝ }
+    ensures { λ r. ⌜ ScannedAs (ofBits binary32 pattern) r ⌝ }
+{
+    if pattern % SIGN == 0 {
+        return Scan {
+            number: limits::DONE,
+            steps: 0,
+        };
+    }
+    Scan {
+        number: limits::NOT_WHOLE,
+        steps: 0,
+    }
+}
+
+// From one step on, the last digits still behind the point: so many of the parts that a step has.
+fn parts_of_steps(minus: bool, exponent: u32, fraction: u32) -> Scan
+    requires { ⌜ (121 ≤ exponent) × (exponent < 144) × (fraction < 8388608) ⌝ }
+    ensures { λ r. ⌜ ScannedAs (ofFields binary32 minus exponent fraction) r ⌝ }
+{
+    let digits = LEADING + fraction;
+    let step = 1u32 << (WHOLE - exponent);
+    if digits % step == 0 {
+        return taken(minus, digits / step);
+    }
+    Scan {
+        number: limits::NOT_WHOLE,
+        steps: 0,
+    }
+}
+
 // The float whose bit pattern this is, as a file has it.
 pub fn scan_pattern(pattern: u32) -> Scan
     ensures { λ r. ⌜ ScannedAs (ofBits binary32 pattern) r ⌝ }
@@ -88,27 +125,10 @@ pub fn scan_pattern(pattern: u32) -> Scan
             steps: 0,
         };
     }
-    if pattern % SIGN == 0 {
-        return Scan {
-            number: limits::DONE,
-            steps: 0,
-        };
-    }
     if exponent < ONE_STEP {
-        return Scan {
-            number: limits::NOT_WHOLE,
-            steps: 0,
-        };
+        return under_one_step(pattern);
     }
-    let digits = LEADING + pattern % LEADING;
-    let step = 1u32 << (WHOLE - exponent);
-    if digits % step == 0 {
-        return taken(SIGN <= pattern, digits / step);
-    }
-    Scan {
-        number: limits::NOT_WHOLE,
-        steps: 0,
-    }
+    parts_of_steps(SIGN <= pattern, exponent, pattern % LEADING)
 }
 
 // A float's bit pattern. What is not a number has one too, so that every float has.
@@ -116,7 +136,7 @@ pub fn pattern(x: f32) -> u32
     ensures { λ r. ⌜ PatternOf x r ⌝ }
 {
     if x != x {
-        return 2143289344;
+        return NAN;
     }
     f32::to_bits(x)
 }

@@ -7,7 +7,7 @@ use Prim.Native.Nat.{ℕ, _+_, _*_, _/_, _≤_, _<_}
 use lib.ListN.{length, getD}
 use lib.IntN.{ℤ, pos, _+ℤ_, _*ℤ_}
 use lib.Signed.{_≤ℤ_, _<ℤ_}
-use Rattle.limits.specs.Limits.{weightMost}
+use Rattle.limits.specs.Limits
 use Rattle.space.specs.Vectors.{Vec3, dot, minus, origin}
 pub use Rattle.space.specs.declared.Pair.{Pair}
 
@@ -44,7 +44,7 @@ pub record Fair (A B : Piece) (p : Pair) : Type 0 where
   pub of-first : p .first < cornerCount A
   pub of-second : p .second < cornerCount B
   pub least : pos 1 ≤ℤ p .weight
-  pub most : p .weight ≤ℤ pos weightMost
+  pub most : p .weight ≤ℤ pos Limits.weightMost
 
 -- "one to four pairs (a, b) and whole weights from 1 to 2^57 have weighted differences a−b summing to zero"
 pub record Balance (A B : Piece) (ps : List Pair) : Type 0 where
@@ -78,13 +78,13 @@ pub record Penetrating (A B : Piece) : Type 0 where
 
 -- the verdict's number: 1 separate, 2 touching, 3 penetrating
 abbrev pub separate : ℕ
-separate = 1
+separate = Limits.separate
 
 abbrev pub touching : ℕ
-touching = 2
+touching = Limits.touching
 
 abbrev pub penetrating : ℕ
-penetrating = 3
+penetrating = Limits.penetrating
 
 -- v is the right verdict of A, the piece named first, and B
 abbrev pub VerdictIs : Piece → Piece → ℕ → Type 0

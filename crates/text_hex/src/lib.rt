@@ -23,6 +23,14 @@ pub enum Text {
 
 const PATTERN_DIGITS: usize = 8;
 
+// How many digits there are; it stands for the worth of a byte that is none.
+const BASE: u64 = 16;
+
+// What is taken from a letter for its worth: A is worth ten.
+const UPPER: u8 = b'A' - 10;
+
+const LOWER: u8 = b'a' - 10;
+
 // The bit pattern that 8 hex digits stand for.
 pub fn read_pattern(word: &[u8]) -> Pattern
     ensures { λ r. ⌜ PatternReads (now (word .entry)) r ⌝ }
@@ -34,10 +42,10 @@ pub fn read_pattern(word: &[u8]) -> Pattern
     let mut i: usize = 0;
     while i < word.len() {
         let d = worth(word[i]);
-        if 15 < d {
+        if BASE <= d {
             return Pattern::Bad;
         }
-        value = value * 16 + d;
+        value = value * BASE + d;
         i += 1;
     }
     Pattern::Value(value as u32)
@@ -65,10 +73,7 @@ fn measure(word: &[u8]) -> Text
         return dash(word[0]);
     }
     let n = word.len() / 2;
-    if n == 0 {
-        return Text::Bad;
-    }
-    if n * 2 != word.len() {
+    if n == 0 || n * 2 != word.len() {
         return Text::Bad;
     }
     if all_hex(word) {
@@ -92,7 +97,7 @@ fn all_hex(word: &[u8]) -> bool
 {
     let mut i: usize = 0;
     while i < word.len() {
-        if 15 < worth(word[i]) {
+        if BASE <= worth(word[i]) {
             return false;
         }
         i += 1;
@@ -117,7 +122,7 @@ fn byte(high: u64, low: u64) -> u8
     requires { ⌜ (high < 16) × (low < 16) ⌝ }
     ensures { λ r. ⌜ r ≡ high * 16 + low ⌝ }
 {
-    (high * 16 + low) as u8
+    (high * BASE + low) as u8
 }
 
 // What a hex digit is worth, and 16 where the byte is none.
@@ -125,16 +130,16 @@ fn worth(b: u8) -> u64
     ensures value { λ r. ⌜ r ≡ worthOf b ⌝ }
     ensures most { λ r. ⌜ r ≤ 16 ⌝ }
 {
-    if within(b, 48, 57) {
-        return (b - 48) as u64;
+    if within(b, b'0', b'9') {
+        return (b - b'0') as u64;
     }
-    if within(b, 65, 70) {
-        return (b - 55) as u64;
+    if within(b, b'A', b'F') {
+        return (b - UPPER) as u64;
     }
-    if within(b, 97, 102) {
-        return (b - 87) as u64;
+    if within(b, b'a', b'f') {
+        return (b - LOWER) as u64;
     }
-    16
+    BASE
 }
 
 fn within(b: u8, low: u8, high: u8) -> bool

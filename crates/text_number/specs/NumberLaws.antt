@@ -10,7 +10,7 @@ use lib.IntN.{ℤ, pos, negℤ}
 use lib.ListN.{length}
 use Rattle.ints.specs.Bounds.{in-neg}
 use Rattle.text_digits.specs.Decimal.{Digits, number}
-use Rattle.text_number.specs.Numbers.{Figures, Names, plain, minus, Fits, Reads}
+use Rattle.text_number.specs.Numbers.{Figures, Spells, plain, minus, Fits, Reads}
 use Rattle.text_number.specs.Magnitude.{none, Magnitude, belowZero, notBelowZero}
 use Rattle.text_number.specs.declared.Number.{Number}
 use Rattle.text_number.specs.declared.Number.the-variants.{Value, Bad}
@@ -24,14 +24,14 @@ pub empty-bad : {word : List ℕ} → length word ≡ 0 → Reads word Bad
 empty-bad h v (plain f e) b = omega (arith, f .some)
 empty-bad h v (minus ds p f e) b = omega (arith, ap length p)
 
-pub names-once : {word : List ℕ} {v w : ℤ} → Names word v → Names word w → v ≡ w
-names-once (plain f e) (plain g h) = e ∙ sym h
-names-once (plain f e) (minus ds p g h) = absurd (signed f p)
-names-once (minus ds p f e) (plain g h) = absurd (signed g p)
-names-once (minus ds p f e) (minus es q g h) = e ∙ (cc) ∙ sym h
+pub spells-once : {word : List ℕ} {v w : ℤ} → Spells word v → Spells word w → v ≡ w
+spells-once (plain f e) (plain g h) = e ∙ sym h
+spells-once (plain f e) (minus ds p g h) = absurd (signed f p)
+spells-once (minus ds p f e) (plain g h) = absurd (signed g p)
+spells-once (minus ds p f e) (minus es q g h) = e ∙ (cc) ∙ sym h
 
 pub reads-once : (word : List ℕ) (q r : Number) → Reads word q → Reads word r → q ≡ r
-reads-once word (Value v) (Value w) a b = ap Value (names-once (a .0) (b .0))
+reads-once word (Value v) (Value w) a b = ap Value (spells-once (a .0) (b .0))
 reads-once word (Value v) Bad a b = absurd (b v (a .0) (a .1))
 reads-once word Bad (Value w) a b = absurd (a w (b .0) (b .1))
 reads-once word Bad Bad a b = cc

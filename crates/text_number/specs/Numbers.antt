@@ -17,9 +17,9 @@ pub record Figures (word : List ℕ) : Type 0 where
   pub few : length word ≤ 10
 
 -- the whole number that a word names; 45 is the minus
-pub data Names (word : List ℕ) (v : ℤ) : Type 0 where
-  plain : Figures word → v ≡ pos (number word) → Names word v
-  minus : (figures : List ℕ) → word ≡ 45 ∷ figures → Figures figures → v ≡ negℤ (pos (number figures)) → Names word v
+pub data Spells (word : List ℕ) (v : ℤ) : Type 0 where
+  plain : Figures word → v ≡ pos (number word) → Spells word v
+  minus : (figures : List ℕ) → word ≡ 45 ∷ figures → Figures figures → v ≡ negℤ (pos (number figures)) → Spells word v
 
 -- "fits 32 bits signed"
 abbrev pub Fits : ℤ → Type 0
@@ -27,5 +27,5 @@ Fits = In 2147483648 2147483647
 
 -- the number that the word names and that fits, or that there is none
 abbrev pub Reads : List ℕ → Number → Type 0
-Reads word (Value v) = Names word v × Fits v
-Reads word Bad = (v : ℤ) → Names word v → Fits v → ⊥
+Reads word (Value v) = Spells word v × Fits v
+Reads word Bad = (v : ℤ) → Spells word v → Fits v → ⊥

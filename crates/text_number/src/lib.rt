@@ -1,11 +1,9 @@
 // One word as a number: an optional minus and 1 to 10 digits, that fits 32 bits signed.
 // The digits are read without a sign, into a type that holds ten of them.
 ghost use mathlib.Core.Path.{_≡_};
-ghost use mathlib.Core.Bool.{true};
-ghost use mathlib.Core.Logic.{_↔_};
-ghost use Rattle.text_digits.specs.Decimal.{Digit};
 ghost use Rattle.text_number.specs.Numbers.{Reads};
 ghost use Rattle.text_number.specs.Magnitude.{Magnitude, belowZero, notBelowZero};
+use text_digits::is_digit;
 
 // The answer to a word: the number, or that the word is none.
 pub enum Number {
@@ -17,6 +15,11 @@ const MOST_DIGITS: usize = 10;
 
 // What is answered in place of a number that is none: one more than ten digits can name.
 const NONE: u64 = 10000000000;
+
+// The most that 32 bits signed hold, below zero and above it.
+const MOST_BELOW: u64 = 2147483648;
+
+const MOST_ABOVE: u64 = 2147483647;
 
 // The number that a word stands for.
 pub fn read_number(word: &[u8]) -> Number
@@ -54,20 +57,11 @@ fn magnitude(word: &[u8]) -> u64
     value
 }
 
-fn is_digit(b: u8) -> bool
-    ensures { λ r. ⌜ ((r ≡ true) ↔ Digit b) ⌝ }
-{
-    if b < b'0' {
-        return false;
-    }
-    b <= b'9'
-}
-
 // The number below zero whose magnitude this is, where it fits.
 fn below_zero(magnitude: u64) -> Number
     ensures { λ r. ⌜ r ≡ belowZero magnitude ⌝ }
 {
-    if 2147483648 < magnitude {
+    if MOST_BELOW < magnitude {
         return Number::Bad;
     }
     Number::Value((0 - magnitude as i64) as i32)
@@ -77,7 +71,7 @@ fn below_zero(magnitude: u64) -> Number
 fn not_below_zero(magnitude: u64) -> Number
     ensures { λ r. ⌜ r ≡ notBelowZero magnitude ⌝ }
 {
-    if 2147483647 < magnitude {
+    if MOST_ABOVE < magnitude {
         return Number::Bad;
     }
     Number::Value(magnitude as i32)

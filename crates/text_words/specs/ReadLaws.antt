@@ -10,7 +10,7 @@ use lib.IntN.{ℤ}
 use lib.ListN.{length, getD, drop, set, length-append, length-drop}
 use lib.Seq.{drop-cons, set-at, append-snoc}
 use Rattle.text_number.specs.Numbers.{Reads}
-use Rattle.text_number.specs.NumberLaws.{names-once}
+use Rattle.text_number.specs.NumberLaws.{spells-once}
 use Rattle.text_words.specs.Words.{wordsOf, AreNumbers, filled, Stuck, Listed}
 use Rattle.text_number.specs.declared.Number.the-variants.{Value, Bad}
 use Rattle.text_words.specs.declared.Count.{Count}
@@ -100,14 +100,14 @@ module _ {text left : List ℕ} {room now : List ℤ} {n : ℕ} (d : Done text l
   )
 
 -- ---- one answer: where a run of numbers stops, another does not go on
-abbrev Stops : List ℕ → ℕ → ℕ → Type 0
-Stops next k room = Reads next Bad ⊎ (k ≡ room)
+abbrev StopsAt : List ℕ → ℕ → ℕ → Type 0
+StopsAt next k room = Reads next Bad ⊎ (k ≡ room)
 
-goes-on : (next : List ℕ) (room : ℕ) (v : ℤ) → Stops next 0 room → Reads next (Value v) → 0 < room → ⊥
+goes-on : (next : List ℕ) (room : ℕ) (v : ℤ) → StopsAt next 0 room → Reads next (Value v) → 0 < room → ⊥
 goes-on next room v (inl b) r h = b v (r .0) (r .1)
 goes-on next room v (inr e) r h = omega arith
 
-stopped : (n m : List ℕ) (r s us : List (List ℕ)) (xs : List ℤ) (room : ℕ) → AreNumbers us xs → length xs ≤ room → n ∷ r ≡ us ++ m ∷ s → Stops n 0 room → [] ≡ xs
+stopped : (n m : List ℕ) (r s us : List (List ℕ)) (xs : List ℤ) (room : ℕ) → AreNumbers us xs → length xs ≤ room → n ∷ r ≡ us ++ m ∷ s → StopsAt n 0 room → [] ≡ xs
 stopped n m r s [] [] room h f e t = refl
 stopped n m r s [] (x ∷ xs) room h f e t = absurd h
 stopped n m r s (u ∷ us) [] room h f e t = absurd h
@@ -115,13 +115,13 @@ stopped n m r s (u ∷ us) (x ∷ xs) room h f e t =
     let k : n ≡ u = cc in
     absurd (goes-on n room x t (subst (λ (w : List ℕ). Reads w (Value x)) (sym k) (h .0)) (omega arith))
 
-pred-stops : (next : List ℕ) (k room : ℕ) → Stops next (suc k) room → Stops next k (room - 1)
+pred-stops : (next : List ℕ) (k room : ℕ) → StopsAt next (suc k) room → StopsAt next k (room - 1)
 pred-stops next k room (inl b) = inl b
 pred-stops next k room (inr e) = inr (omega arith)
 
 module _ (n m : List ℕ) (r s : List (List ℕ)) where
   same-run : (room : ℕ) (ws us : List (List ℕ)) (vs xs : List ℤ) → AreNumbers ws vs → AreNumbers us xs → length vs ≤ room → length xs ≤ room
-      → ws ++ n ∷ r ≡ us ++ m ∷ s → Stops n (length vs) room → Stops m (length xs) room → vs ≡ xs
+      → ws ++ n ∷ r ≡ us ++ m ∷ s → StopsAt n (length vs) room → StopsAt m (length xs) room → vs ≡ xs
   same-run room [] us [] xs h g f k e t q = stopped n m r s us xs room g k e t
   same-run room [] us (v ∷ vs) xs h g f k e t q = absurd h
   same-run room (w ∷ ws) us [] xs h g f k e t q = absurd h
@@ -131,7 +131,7 @@ module _ (n m : List ℕ) (r s : List (List ℕ)) where
   same-run room (w ∷ ws) (u ∷ us) (v ∷ vs) (x ∷ xs) h g f k e t q =
       let i : u ≡ w = cc in
       let j : ws ++ n ∷ r ≡ us ++ m ∷ s = cc in
-      let a = names-once (h .0 .0) (subst (λ (l : List ℕ). Reads l (Value x)) i (g .0) .0) in
+      let a = spells-once (h .0 .0) (subst (λ (l : List ℕ). Reads l (Value x)) i (g .0) .0) in
       ap₂ (λ (y : ℤ) (ys : List ℤ). y ∷ ys) a (same-run (room - 1) ws us vs xs (h .1) (g .1) (omega arith) (omega arith) j (pred-stops n (length vs) room t) (pred-stops m (length xs) room q))
 
 pub numbers-once : (ws : List (List ℕ)) (vs xs : List ℤ) → AreNumbers ws vs → AreNumbers ws xs → vs ≡ xs
@@ -140,11 +140,11 @@ numbers-once [] [] (x ∷ xs) h g = absurd g
 numbers-once [] (v ∷ vs) xs h g = absurd h
 numbers-once (w ∷ ws) [] xs h g = absurd h
 numbers-once (w ∷ ws) (v ∷ vs) [] h g = absurd g
-numbers-once (w ∷ ws) (v ∷ vs) (x ∷ xs) h g = ap₂ (λ (y : ℤ) (ys : List ℤ). y ∷ ys) (names-once (h .0 .0) (g .0 .0)) (numbers-once ws vs xs (h .1) (g .1))
+numbers-once (w ∷ ws) (v ∷ vs) (x ∷ xs) h g = ap₂ (λ (y : ℤ) (ys : List ℤ). y ∷ ys) (spells-once (h .0 .0) (g .0 .0)) (numbers-once ws vs xs (h .1) (g .1))
 
 -- no run stops before all of them are read
 module _ (m : List ℕ) (s : List (List ℕ)) where
-  all-read : (room : ℕ) (ws us : List (List ℕ)) (vs xs : List ℤ) → AreNumbers ws vs → AreNumbers us xs → length vs ≤ room → ws ≡ us ++ m ∷ s → Stops m (length xs) room → ⊥
+  all-read : (room : ℕ) (ws us : List (List ℕ)) (vs xs : List ℤ) → AreNumbers ws vs → AreNumbers us xs → length vs ≤ room → ws ≡ us ++ m ∷ s → StopsAt m (length xs) room → ⊥
   all-read room [] [] vs xs h g f e q = let z : _≡_ {A = ℕ} 0 1 = cc in omega arith
   all-read room [] (u ∷ us) vs xs h g f e q = let z : _≡_ {A = ℕ} 0 1 = cc in omega arith
   all-read room (w ∷ ws) us [] xs h g f e q = absurd h

@@ -3,31 +3,26 @@
 use Prim.Native.Nat.{ℕ, _≤_}
 use mathlib.Core.Path.{_≡_}
 use mathlib.Core.List.{List, [], _∷_, _++_}
-use mathlib.Core.Logic.{_⊎_, ite}
-use native.Mathlib.Decide.{ℕ-discrete}
+use mathlib.Core.Logic.{_⊎_}
 use lib.ListN.{length, drop}
 use lib.IntN.{ℤ}
+use Rattle.text_cut.specs.Cuts.{firstPart, partsOf}
 use Rattle.text_number.specs.Numbers.{Reads}
 use Rattle.text_number.specs.declared.Number.the-variants.{Value, Bad}
 use Rattle.text_words.specs.declared.Count.{Count}
 use Rattle.text_words.specs.declared.Count.the-variants.{Numbers, Bad as Failed}
 
--- the bytes before the first space
-unfoldable pub firstWord : List ℕ → List ℕ
-unfolding ℕ-discrete
-firstWord [] = []
-firstWord (b ∷ s) = ite (ℕ-discrete b 32) [] (b ∷ firstWord s)
+-- the byte at which a line is cut into its words
+abbrev pub spaceByte : ℕ
+spaceByte = 32
 
--- a byte goes to the front of the first word of what follows it
-abbrev pub onto : ℕ → List (List ℕ) → List (List ℕ)
-onto b [] = (b ∷ []) ∷ []
-onto b (w ∷ ws) = (b ∷ w) ∷ ws
+-- the bytes before the first space
+abbrev pub firstWord : List ℕ → List ℕ
+firstWord = firstPart spaceByte
 
 -- the words: a space ends one, and what follows the last space is a word too
-unfoldable pub wordsOf : List ℕ → List (List ℕ)
-unfolding ℕ-discrete
-wordsOf [] = [] ∷ []
-wordsOf (b ∷ s) = ite (ℕ-discrete b 32) ([] ∷ wordsOf s) (onto b (wordsOf s))
+abbrev pub wordsOf : List ℕ → List (List ℕ)
+wordsOf = partsOf spaceByte
 
 -- each word is a number, and these are the numbers
 abbrev pub AreNumbers : List (List ℕ) → List ℤ → Type 0

@@ -18,17 +18,7 @@ pub fn word_end(line: &[u8], start: usize) -> usize
     ensures place { λ r. ⌜ r ≡ min start (length (now (line .entry))) + length (firstWord (drop start (now (line .entry)))) ⌝ }
     ensures within { λ r. ⌜ r ≤ length (now (line .entry)) ⌝ }
 {
-    if line.len() < start {
-        return line.len();
-    }
-    let mut i = start;
-    while i < line.len() {
-        if line[i] == b' ' {
-            return i;
-        }
-        i += 1;
-    }
-    i
+    text_cut::part_end(line, start, b' ')
 }
 
 // The words from a place to the line's end, each of them a number, into the room's first cells.

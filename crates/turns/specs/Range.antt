@@ -8,9 +8,9 @@ use lib.IntN.{ℤ, pos, negℤ, natAbs}
 use lib.Signed.{ltZ}
 use Rattle.limits.specs.Limits
 use Rattle.ints.specs.Bounds.{Within, natAbs-neg, natAbs-add}
-use Rattle.turns.specs.Turns.{axisOf, along, signedAxis, turnedAt, placedAt}
+use Rattle.turns.specs.Turns.{namedAxis, along, signedAxis, turnedAt, placedAt}
 
-pub axis-within : (n : ℕ) {reach : ℕ} {x y z : ℤ} → Within reach x → Within reach y → Within reach z → Within reach (axisOf n x y z)
+pub axis-within : (n : ℕ) {reach : ℕ} {x y z : ℤ} → Within reach x → Within reach y → Within reach z → Within reach (namedAxis n x y z)
 axis-within n {reach} {x} {y} {z} hx hy hz = first (eqb n 1) (eqb n 2)
   where
     first : (a b : Bool) → Within reach (cond a x (cond b y z))
@@ -19,7 +19,7 @@ axis-within n {reach} {x} {y} {z} hx hy hz = first (eqb n 1) (eqb n 2)
     first false false = hz
 
 pub along-within : (k : ℤ) {reach : ℕ} {x y z : ℤ} → Within reach x → Within reach y → Within reach z → Within reach (along k x y z)
-along-within k {reach} {x} {y} {z} hx hy hz = signed (ltZ k (pos 0)) (axisOf (natAbs k) x y z) (axis-within (natAbs k) hx hy hz)
+along-within k {reach} {x} {y} {z} hx hy hz = signed (ltZ k (pos 0)) (namedAxis (natAbs k) x y z) (axis-within (natAbs k) hx hy hz)
   where
     signed : (b : Bool) (v : ℤ) → Within reach v → Within reach (cond b (negℤ v) v)
     signed true v h = record { abs = omega (arith, natAbs-neg v, h .abs) }

@@ -50,8 +50,8 @@ firstRows = row plus plus plus ∷ row plus minus minus ∷ row minus plus minus
 abbrev pub lastRows : List Turn
 lastRows = row minus minus minus ∷ row minus plus plus ∷ row plus minus plus ∷ row plus plus minus ∷ []
 
-abbrev pub rowsOf : ℕ → List Turn
-rowsOf permutation = cond (ltb permutation 3) firstRows lastRows
+abbrev pub tableRows : ℕ → List Turn
+tableRows permutation = cond (ltb permutation 3) firstRows lastRows
 
 abbrev pub times : Turn → Turn → Turn
 times s p = row (s .x *ℤ p .x) (s .y *ℤ p .y) (s .z *ℤ p .z)
@@ -61,18 +61,18 @@ none = row (pos 0) (pos 0) (pos 0)
 
 -- "Turn number = 4 × permutation + sign row, both counted from 0."
 unfoldable pub turnOf : ℕ → Turn
-turnOf turn = times (getD (rowsOf (turn / 4)) (turn % 4) none) (getD permutations (turn / 4) none)
+turnOf turn = times (getD (tableRows (turn / 4)) (turn % 4) none) (getD permutations (turn / 4) none)
 
 -- what a turn puts on axis 0, 1 or 2 (any number above is taken for 2)
 unfoldable pub signedAxis : ℕ → ℕ → ℤ
 signedAxis turn axis = cond (eqb axis 0) (turnOf turn .x) (cond (eqb axis 1) (turnOf turn .y) (turnOf turn .z))
 
 -- the coordinate along axis 1, 2 or 3, and along a signed axis
-abbrev pub axisOf : ℕ → ℤ → ℤ → ℤ → ℤ
-axisOf n x y z = cond (eqb n 1) x (cond (eqb n 2) y z)
+abbrev pub namedAxis : ℕ → ℤ → ℤ → ℤ → ℤ
+namedAxis n x y z = cond (eqb n 1) x (cond (eqb n 2) y z)
 
 abbrev pub along : ℤ → ℤ → ℤ → ℤ → ℤ
-along k x y z = cond (ltZ k (pos 0)) (negℤ (axisOf (natAbs k) x y z)) (axisOf (natAbs k) x y z)
+along k x y z = cond (ltZ k (pos 0)) (negℤ (namedAxis (natAbs k) x y z)) (namedAxis (natAbs k) x y z)
 
 -- one coordinate of the turned corner: ""yxz with −++" (turn 21) sends (x, y, z) to (−y, x, z)."
 unfoldable pub turnedAt : ℕ → ℕ → ℤ → ℤ → ℤ → ℤ

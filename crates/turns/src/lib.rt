@@ -5,7 +5,7 @@ ghost use Prim.Native.Nat.{_<_};
 ghost use lib.IntN.{natAbs};
 ghost use Rattle.limits.specs.Limits;
 ghost use Rattle.ints.specs.Bounds.{Within};
-ghost use Rattle.turns.specs.Turns.{turnOf, signedAxis, axisOf, along, turnedAt, placedAt, Turnable};
+ghost use Rattle.turns.specs.Turns.{turnOf, signedAxis, namedAxis, along, turnedAt, placedAt, Turnable};
 
 // A signed permutation: 1, 2 or 3 for the x, y or z that each coordinate is taken from, less than 0 where it is negated.
 pub struct Turn {
@@ -79,18 +79,12 @@ fn signed_axis(turn: usize, axis: usize) -> i8
 
 // The coordinate that a signed axis names, its sign left aside.
 fn axis_of(k: i8, x: i32, y: i32, z: i32) -> i32
-    ensures { λ r. ⌜ r ≡ axisOf (natAbs k) x y z ⌝ }
+    ensures { λ r. ⌜ r ≡ namedAxis (natAbs k) x y z ⌝ }
 {
-    if k == 1 {
+    if k == 1 || k == -1 {
         return x;
     }
-    if k == -1 {
-        return x;
-    }
-    if k == 2 {
-        return y;
-    }
-    if k == -2 {
+    if k == 2 || k == -2 {
         return y;
     }
     z

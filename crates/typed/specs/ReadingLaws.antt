@@ -12,22 +12,22 @@ use lib.Seq.{drop-length, drop-cons}
 use Rattle.limits.specs.Limits
 use Rattle.text_digits.specs.Decimal.{Digits, number, Follows}
 use Rattle.text_digits.specs.DecimalLaws.{both, digits?, leading, leading-digits, leading-split, whole-leading, rest-follows}
-use Rattle.typed.specs.TypedLength.{CommaOrPoint, TypedAs, Hundredths, NotOfForm, RoundedUp, Answers}
+use Rattle.typed.specs.TypedLength.{CommaOrPoint, TypedAs, Hundredths, NotOfForm, RoundedUp, LengthAnswers}
 use Rattle.typed.specs.TypedLaws.{apart, hundredths-once}
 use Rattle.typed.specs.Reading.{separator?, Few, few?, judged, afterSeparator, afterWhole, reading}
 use Rattle.typed.specs.declared.Typed.the-variants.{Steps, Refused}
 
-form-answers : {text : List ℕ} → NotOfForm text → Answers text (Refused Limits.lengthForm)
+form-answers : {text : List ℕ} → NotOfForm text → LengthAnswers text (Refused Limits.lengthForm)
 form-answers n = record { refusal = inl (n, refl); steps = λ z. absurd (omega arith); zeros = λ z. refl; named = omega arith }
 
 rounded-up : (n : ℕ) → RoundedUp n 100 ((n + 99) / 100)
 rounded-up n = record { notBelow = omega arith; lessThanOneAbove = omega arith }
 
-judged-answers : {text : List ℕ} (h : ℕ) → Hundredths text h → Answers text (judged h)
+judged-answers : {text : List ℕ} (h : ℕ) → Hundredths text h → LengthAnswers text (judged h)
 unfolding judged
 judged-answers {text} h m = go (decLe h Limits.mostHundredths)
   where
-    go : (d : Dec (h ≤ Limits.mostHundredths)) → Answers text (ite d (Steps ((h * Limits.steps + 99) / 100)) (Refused Limits.lengthRange))
+    go : (d : Dec (h ≤ Limits.mostHundredths)) → LengthAnswers text (ite d (Steps ((h * Limits.steps + 99) / 100)) (Refused Limits.lengthRange))
     go (yes l) = record {
       refusal = inr (λ n. n (m .whole) (m .part) (m .typed), inr (λ o. omega (arith, o .2, hundredths-once (o .1) m), refl));
       steps = λ z. (h, m, rounded-up (h * Limits.steps));
@@ -69,7 +69,7 @@ module _ (text : List ℕ) where
   typed-follows : {whole part : List ℕ} (rest : List ℕ) → after ≡ rest → TypedAs text whole part → Follows CommaOrPoint rest part
   typed-follows {whole} {part} rest e a = subst (λ (l : List ℕ). Follows CommaOrPoint l part) e (rest-follows CommaOrPoint apart (a .decimal))
 
-  separator-answers : (c : ℕ) (t : List ℕ) → after ≡ c ∷ t → Few Limits.wholeDigits first → CommaOrPoint c → Answers text (afterSeparator (number first) t)
+  separator-answers : (c : ℕ) (t : List ℕ) → after ≡ c ∷ t → Few Limits.wholeDigits first → CommaOrPoint c → LengthAnswers text (afterSeparator (number first) t)
   unfolding afterSeparator
   separator-answers c t e few s = go (both (digits? t) (few? Limits.partDigits t))
     where
@@ -77,28 +77,28 @@ module _ (text : List ℕ) where
       part-is e some ds few = subst (λ (l : List ℕ). Digits l × Few Limits.partDigits l) (sym e) (ds, (some, few))
 
       go : (d : Dec (Digits t × Few Limits.partDigits t))
-          → Answers text (ite d (judged (number first * 100 + number t * 10 ^ (2 - length t))) (Refused Limits.lengthForm))
+          → LengthAnswers text (ite d (judged (number first * 100 + number t * 10 ^ (2 - length t))) (Refused Limits.lengthForm))
       go (yes d) = judged-answers _ (record { whole = first; part = t; typed = typed-as (c ∷ t) t e few (s, refl, d .1 .0) (d .0) (d .1 .1); value = refl })
       go (no n) = form-answers λ whole part a.
           let f = typed-follows (c ∷ t) e a in
           n (part-is (f .1) (f .2) (a .decimal .partDigits) (a .partFew))
 
-  whole-answers : (rest : List ℕ) → after ≡ rest → Few Limits.wholeDigits first → Answers text (afterWhole (number first) rest)
+  whole-answers : (rest : List ℕ) → after ≡ rest → Few Limits.wholeDigits first → LengthAnswers text (afterWhole (number first) rest)
   unfolding afterWhole
   whole-answers [] e few =
       judged-answers (number first * 100) (record { whole = first; part = []; typed = typed-as [] [] e few refl tt (omega arith); value = omega arith })
   whole-answers (c ∷ t) e few = go (separator? c)
     where
-      go : (d : Dec (CommaOrPoint c)) → Answers text (ite d (afterSeparator (number first) t) (Refused Limits.lengthForm))
+      go : (d : Dec (CommaOrPoint c)) → LengthAnswers text (ite d (afterSeparator (number first) t) (Refused Limits.lengthForm))
       go (yes s) = separator-answers c t e few s
       go (no n) = form-answers λ whole part a. n (typed-follows (c ∷ t) e a .0)
 
-pub reading-answers : (text : List ℕ) → Answers text (reading text)
+pub reading-answers : (text : List ℕ) → LengthAnswers text (reading text)
 unfolding reading
 reading-answers text = go (few? Limits.wholeDigits (leading text))
   where
     go : (d : Dec (Few Limits.wholeDigits (leading text)))
-        → Answers text (ite d (afterWhole (number (leading text)) (drop (length (leading text)) text)) (Refused Limits.lengthForm))
+        → LengthAnswers text (ite d (afterWhole (number (leading text)) (drop (length (leading text)) text)) (Refused Limits.lengthForm))
     go (yes few) = whole-answers text (drop (length (leading text)) text) refl few
     go (no n) = form-answers λ whole part a.
         let e = whole-leading CommaOrPoint apart (a .decimal) in

@@ -9,7 +9,7 @@ use Rattle.limits.specs.Limits
 use Rattle.limits.specs.LowestLaws.{lowest-once}
 use Rattle.text_digits.specs.Decimal.{Digit, valueIn}
 use Rattle.text_digits.specs.DecimalLaws.{decimal-once}
-use Rattle.typed.specs.TypedLength.{CommaOrPoint, Hundredths, RoundedUp, InSteps, numberOf, refusals, Answers}
+use Rattle.typed.specs.TypedLength.{CommaOrPoint, Hundredths, RoundedUp, LengthInSteps, numberOf, refusals, LengthAnswers}
 use Rattle.typed.specs.declared.Typed.{Typed}
 use Rattle.typed.specs.declared.Typed.the-variants.{Steps, Refused}
 
@@ -26,14 +26,14 @@ hundredths-once a b =
 pub rounded-once : {n s t : ℕ} → RoundedUp n 100 s → RoundedUp n 100 t → s ≡ t
 rounded-once a b = omega arith
 
-pub steps-once : {text : List ℕ} {s t : ℕ} → InSteps text s → InSteps text t → s ≡ t
+pub steps-once : {text : List ℕ} {s t : ℕ} → LengthInSteps text s → LengthInSteps text t → s ≡ t
 steps-once {text} {s} {t} a b =
     rounded-once (a .2) (subst (λ (h : ℕ). RoundedUp (h * Limits.steps) 100 t) (hundredths-once (b .1) (a .1)) (b .2))
 
-same : {text : List ℕ} {q r : Typed} → Answers text q → Answers text r → numberOf q ≡ numberOf r
+same : {text : List ℕ} {q r : Typed} → LengthAnswers text q → LengthAnswers text r → numberOf q ≡ numberOf r
 same {text} a b = lowest-once (refusals text) (a .refusal) (b .refusal)
 
-pub answers-once : {text : List ℕ} (q r : Typed) → Answers text q → Answers text r → q ≡ r
+pub answers-once : {text : List ℕ} (q r : Typed) → LengthAnswers text q → LengthAnswers text r → q ≡ r
 answers-once {text} (Steps s) (Steps t) a b = ap Steps (steps-once (a .steps refl) (b .steps refl))
 answers-once {text} (Steps s) (Refused n) a b = absurd (omega (arith, b .named, same a b))
 answers-once {text} (Refused m) (Steps t) a b = absurd (omega (arith, a .named, same a b))

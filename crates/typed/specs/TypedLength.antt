@@ -43,8 +43,8 @@ pub record RoundedUp (n d s : ℕ) : Type 0 where
   pub lessThanOneAbove : s * d < n + d
 
 -- "the result in steps is hundredths × 64 / 100, rounded up"
-abbrev pub InSteps : List ℕ → ℕ → Type 0
-InSteps text s = (h : ℕ) × Hundredths text h × RoundedUp (h * Limits.steps) 100 s
+abbrev pub LengthInSteps : List ℕ → ℕ → Type 0
+LengthInSteps text s = (h : ℕ) × Hundredths text h × RoundedUp (h * Limits.steps) 100 s
 
 -- document 01's number of an answer, 0 where it is done, and its steps, which are zero on a refusal
 abbrev pub numberOf : Typed → ℕ
@@ -65,8 +65,8 @@ abbrev pub refusals : List ℕ → List Refusal
 refusals text = Limits.lengthForm when NotOfForm text ∷ Limits.lengthRange when OverRange text ∷ []
 
 -- the answer to a text: the lowest refusal that applies; where none does, the steps; else "Every other value in the answer is zero"
-pub record Answers (text : List ℕ) (r : Typed) : Type 0 where
+pub record LengthAnswers (text : List ℕ) (r : Typed) : Type 0 where
   pub refusal : Lowest (refusals text) (numberOf r)
-  pub steps : numberOf r ≡ 0 → InSteps text (stepsOf r)
+  pub steps : numberOf r ≡ 0 → LengthInSteps text (stepsOf r)
   pub zeros : 0 < numberOf r → stepsOf r ≡ 0
   pub named : Named r

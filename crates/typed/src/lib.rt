@@ -8,8 +8,9 @@ ghost use lib.ListN.{length, drop};
 ghost use Rattle.limits.specs.Limits;
 ghost use Rattle.text_digits.specs.Decimal.{Digit, number};
 ghost use Rattle.text_digits.specs.DecimalLaws.{leading};
-ghost use Rattle.typed.specs.TypedLength.{CommaOrPoint, Answers};
+ghost use Rattle.typed.specs.TypedLength.{CommaOrPoint, LengthAnswers};
 ghost use Rattle.typed.specs.Reading.{cut, judged, afterSeparator, afterWhole};
+use text_digits::is_digit;
 
 // The answer to a text: steps, or the number of the refusal.
 pub enum Typed {
@@ -19,6 +20,12 @@ pub enum Typed {
 
 // Steps to the millimetre, in the type that hundredths are counted in.
 const STEPS: u32 = limits::STEPS as u32;
+
+// Hundredths to the millimetre.
+const HUNDREDTHS: u32 = 100;
+
+// What is added before a division by them that rounds up.
+const ROUND_UP: u32 = HUNDREDTHS - 1;
 
 // Where a number that is read stops growing: no typed length has so many digits, and so it fits, however long the text is.
 const CUT: u32 = 1000000;
@@ -31,7 +38,7 @@ struct Run {
 
 // The length that a text means, in steps, or the refusal of a text that means none or too long a one.
 pub fn typed_length(text: &[u8]) -> Typed
-    ensures { λ r. ⌜ Answers (now (text .entry)) r ⌝ }
+    ensures { λ r. ⌜ LengthAnswers (now (text .entry)) r ⌝ }
 {
     let whole = digits(text, 0);
     let n = whole.count;
@@ -50,7 +57,7 @@ fn after_whole(text: &[u8], at: usize, whole: u32) -> Typed
     ensures { λ r. ⌜ r ≡ afterWhole whole (drop at (now (text .entry))) ⌝ }
 {
     if at == text.len() {
-        return in_steps(whole * 100);
+        return in_steps(whole * HUNDREDTHS);
     }
     let c = text[at];
     if is_separator(c) {
@@ -75,17 +82,17 @@ fn after_separator(text: &[u8], at: usize, whole: u32) -> Typed
     if limits::PART_DIGITS < k {
         return Typed::Refused(limits::LENGTH_FORM);
     }
-    in_steps(whole * 100 + part.value * worth(k))
+    in_steps(whole * HUNDREDTHS + part.value * worth(k))
 }
 
 // "Both separators mean the same."
 fn is_separator(c: u8) -> bool
     ensures { λ r. ⌜ ((r ≡ true) ↔ CommaOrPoint c) ⌝ }
 {
-    if c == 44 {
+    if c == b',' {
         return true;
     }
-    c == 46
+    c == b'.'
 }
 
 // What the last of k digits after the separator is worth, in hundredths.
@@ -97,14 +104,14 @@ fn worth(k: usize) -> u32
     if k == 1 { 10 } else { 1 }
 }
 
-// Hundredths of a millimetre to steps, or out of range. Rounded up: one less than the divisor is added first.
+// Hundredths of a millimetre to steps, rounded up, or out of range.
 fn in_steps(h: u32) -> Typed
     ensures { λ r. ⌜ r ≡ judged h ⌝ }
 {
     if limits::MOST_HUNDREDTHS < h {
         return Typed::Refused(limits::LENGTH_RANGE);
     }
-    Typed::Steps((h * STEPS + 99) / 100)
+    Typed::Steps((h * STEPS + ROUND_UP) / HUNDREDTHS)
 }
 
 // The digits from a place on.
@@ -132,20 +139,11 @@ fn digits(text: &[u8], from: usize) -> Run
     }
 }
 
-fn is_digit(b: u8) -> bool
-    ensures { λ r. ⌜ ((r ≡ true) ↔ Digit b) ⌝ }
-{
-    if b < 48 {
-        return false;
-    }
-    b <= 57
-}
-
 // A number with one digit more behind it, cut.
 fn one_more(value: u32, b: u8) -> u32
     requires { ⌜ (value ≤ cut) × Digit b ⌝ }
     ensures { λ r. ⌜ r ≡ min (value * 10 + (b - 48)) cut ⌝ }
 {
-    let next = value * 10 + (b - 48) as u32;
+    let next = value * 10 + (b - b'0') as u32;
     if next < CUT { next } else { CUT }
 }

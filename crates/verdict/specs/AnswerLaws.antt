@@ -7,12 +7,12 @@ use native.Mathlib.Omega.{arith}
 use lib.Seq.{ext-getD}
 use Rattle.limits.specs.Limits.{done}
 use Rattle.limits.specs.LowestLaws.{lowest-once}
-use Rattle.space.specs.Verdicts.{Piece, separate, penetrating}
+use Rattle.space.specs.Verdicts.{Piece, separate}
 use Rattle.space.specs.Exclusion.{verdict-once}
 use Rattle.verdict_walk.specs.NoPairs.{noPair, noPairs}
 use Rattle.verdict_walk.specs.GatherLaws.{none-at}
 use Rattle.verdict.specs.declared.Answer.{Answer}
-use Rattle.verdict.specs.Answers.{refusals, nothing, Carries, Answers}
+use Rattle.verdict.specs.Answers.{refusals, nothing, Carries, Answers, OneAnswer}
 
 -- an answer carries no more than four pairs
 pub carries-few : {A B : Piece} {r : Answer} → Carries A B r → r .count ≤ 4
@@ -26,16 +26,10 @@ carries-few {r = r} c = go (ℕ-discrete (r .verdict) separate)
 no-pairs : {A B : Piece} {r : Answer} → Carries A B r → r .verdict ≡ separate → r .pairs ≡ noPairs
 no-pairs {r = r} c e = ext-getD noPair (r .pairs) noPairs (c .four) (λ k h. c .rest k (let z = c .unpaired e in omega arith) ∙ sym (none-at k))
 
--- number and verdict are one; a refused answer is one to its last field; so are the count and the pairs of separate pieces, and the direction of penetrating ones
-pub record OneAnswer (q r : Answer) : Type 0 where
-  pub number : q .number ≡ r .number
-  pub verdict : q .verdict ≡ r .verdict
-  pub refused : (q .number ≡ done → ⊥) → q ≡ r
-  pub unpaired : q .verdict ≡ separate → (q .count ≡ r .count) × (q .pairs ≡ r .pairs)
-  pub undirected : q .verdict ≡ penetrating → q .direction ≡ r .direction
-
 -- two answers with one number, of which each is all zero where it is refused and else carries a verdict of the same two pieces
-module _ {A B : Piece} {q r : Answer} (same : q .number ≡ r .number) (zq : (q .number ≡ done → ⊥) → q ≡ nothing (q .number)) (zr : (r .number ≡ done → ⊥) → r ≡ nothing (r .number)) (cq : q .number ≡ done → Carries A B q) (cr : r .number ≡ done → Carries A B r) where
+module _ {A B : Piece} {q r : Answer} (same : q .number ≡ r .number)
+    (zq : (q .number ≡ done → ⊥) → q ≡ nothing (q .number)) (zr : (r .number ≡ done → ⊥) → r ≡ nothing (r .number))
+    (cq : q .number ≡ done → Carries A B q) (cr : r .number ≡ done → Carries A B r) where
   equal : (q .number ≡ done → ⊥) → q ≡ r
   equal f = zq f ∙ ap nothing same ∙ sym (zr (λ z. f (same ∙ z)))
 

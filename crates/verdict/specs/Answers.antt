@@ -53,3 +53,12 @@ pub record Answers (A B : Piece) (r : Answer) : Type 0 where
   pub refusal : Lowest (refusals A B) (r .number)
   pub zeros : (r .number ≡ done → ⊥) → r ≡ nothing (r .number)
   pub carries : r .number ≡ done → Carries A B r
+
+-- what two answers to one question share: the number and the verdict; a refused answer to its last field;
+-- the count and the pairs of separate pieces, and the direction of penetrating ones
+pub record OneAnswer (q r : Answer) : Type 0 where
+  pub number : q .number ≡ r .number
+  pub verdict : q .verdict ≡ r .verdict
+  pub refused : (q .number ≡ done → ⊥) → q ≡ r
+  pub unpaired : q .verdict ≡ separate → (q .count ≡ r .count) × (q .pairs ≡ r .pairs)
+  pub undirected : q .verdict ≡ penetrating → q .direction ≡ r .direction

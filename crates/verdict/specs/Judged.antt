@@ -24,11 +24,11 @@ use Rattle.space.specs.Verdicts.{Piece, Below, Supported, Balance, touching, pe
 use Rattle.space.specs.Lists.{LengthFits, InReach, Placed}
 use Rattle.verdict_portal.specs.declared.Three.{Three}
 use Rattle.verdict_portal.specs.Portal.{ZeroSum, depth, cramer}
-use Rattle.verdict_portal.specs.Sizes.{bigK, posK, front-under, start, start-turned, start-shifted, plain, plain-nn}
-use Rattle.verdict_portal.specs.Step.{Setting, Held, Met}
+use Rattle.verdict_portal.specs.Sizes.{bigK, posK, front-under, start, start-flipped, start-shifted, plain, plain-nn}
+use Rattle.verdict_portal.specs.Round.{Setting, PortalHeld, Met}
 use Rattle.verdict_portal.specs.Exits.{sum3, w1, w2, wall-some}
 use Rattle.verdict_portal.specs.Flat.{Drops, f4}
-use Rattle.verdict_walk.specs.declared.support.Point.{Point}
+use Rattle.verdict_walk.specs.declared.support.Difference.{Difference}
 use Rattle.verdict_walk.specs.declared.path.Portal.{Portal}
 use Rattle.verdict_walk.specs.declared.path.Ended.{Ended}
 use Rattle.verdict_frame.specs.declared.frame.Frame.{Frame}
@@ -38,7 +38,7 @@ use Rattle.verdict_walk.specs.Points.{Spread, Tagged}
 use Rattle.verdict_walk.specs.PointLaws.{spread-of, below-of, not-above-of, walled-by}
 use Rattle.verdict_walk.specs.Ends.{Ground, Begun, Walked, Corners, Near}
 use Rattle.verdict_walk.specs.EndLaws.{point-upto}
-use Rattle.verdict_frame.specs.Frames.{Framed, Dropping, framePlaces, Started}
+use Rattle.verdict_frame.specs.Frames.{Framed, Dropping, framePlaces, FirstPortal}
 use Rattle.verdict_frame.specs.FrameLaws.{origin-upto}
 use Rattle.verdict_walk.specs.Gather.{baseOf, Gather, Weighed}
 use Rattle.verdict_walk.specs.GatherLaws.{weight-within, minus-within, none-at, gather-none, gather-more, count-grows}
@@ -59,7 +59,7 @@ module _ {A B : Piece} {f : Frame} (pa : Placed A) (pb : Placed B) (k : Framed A
   set-at : (q : Vec3) → Upto shiftReach q → Setting q (f .a .at) (f .b .at) (f .c .at)
   set-at q u = record { inq = u; in1 = cs .ina; in2 = cs .inb; in3 = cs .inc; free = k .free }
 
-  pub begun-strict : {q : Vec3} {v : Three} {t : Portal} → q ≡ origin → v ≡ framePlaces f → Started f t → Begun A B (f .widths) q v t
+  pub begun-strict : {q : Vec3} {v : Three} {t : Portal} → q ≡ origin → v ≡ framePlaces f → FirstPortal f t → Begun A B (f .widths) q v t
   begun-strict {q} {v} {t} eq ev s = subst (λ w. Begun A B (f .widths) w v t) (sym eq) (subst (λ w. Begun A B (f .widths) origin w t) (sym ev) (⊎-elim
       (λ h. subst (Begun A B (f .widths) origin (framePlaces f)) (sym (h .1)) (first (h .0)))
       (λ h. subst (Begun A B (f .widths) origin (framePlaces f)) (sym (h .1)) (second (above (h .0)))) s))
@@ -83,7 +83,12 @@ module _ {A B : Piece} {f : Frame} (pa : Placed A) (pb : Placed B) (k : Framed A
       second d = record {
         setting = set-at origin o;
         held =
-            record { ina = cs .ina; inb = cs .inc; inc = cs .inb; inv = start-shifted o (cs .ina) (cs .inc) (cs .inb) (cs .ina) (cs .inb) (cs .inc) (start-turned (f .a .at) (f .b .at) (f .c .at) d) };
+            record {
+              ina = cs .ina;
+              inb = cs .inc;
+              inc = cs .inb;
+              inv = start-shifted o (cs .ina) (cs .inc) (cs .inb) (cs .ina) (cs .inb) (cs .inc) (start-flipped (f .a .at) (f .b .at) (f .c .at) d);
+            };
         ofa = k .ofa;
         ofb = k .ofc;
         ofc = k .ofb;
@@ -135,7 +140,7 @@ module _ {A B : Piece} {f : Frame} (pa : Placed A) (pb : Placed B) (k : Framed A
 weight-most : {z : ℤ} → Within weightReach z → z ≤ℤ pos weightMost
 weight-most w = ≤ℤ-trans (within-upper w) (record { le = tt })
 
-drops : {A B : Piece} {g : Vec3} {p : Point} (d : Dropping A B g) → Tagged A B g p → Drops (d .k) (d .r1) (d .r2) (d .r3) (p .at) (baseOf A B p)
+drops : {A B : Piece} {g : Vec3} {p : Difference} (d : Dropping A B g) → Tagged A B g p → Drops (d .k) (d .r1) (d .r2) (d .r3) (p .at) (baseOf A B p)
 drops {A} {B} {g} {p} d t = subst (λ v. Drops (d .k) (d .r1) (d .r2) (d .r3) v (baseOf A B p)) (sym (t .is)) (d .drop (p .first) (p .second) (t .of-first) (t .of-second) (t .signs) (t .are))
 
 pub record Weights (A B : Piece) (r : Gathered) : Type 0 where
@@ -202,7 +207,7 @@ weights {A} {B} {f} {e} {r} pa pb k w t h = record {
     up : Upto pointReach p
     up = point-upto gr (w .last)
 
-    hd : Held origin (f .a .at) (f .b .at) (f .c .at) a b c
+    hd : PortalHeld origin (f .a .at) (f .b .at) (f .c .at) a b c
     hd = w .begun .held
 
     met : Met origin p a b c
@@ -220,7 +225,8 @@ weights {A} {B} {f} {e} {r} pa pb k w t h = record {
     g3 : Gather A B 3 (pos 0 +ℤ w0 *ℤ bp .x +ℤ w1′ *ℤ ba .x +ℤ w2′ *ℤ bb .x) (pos 0 +ℤ w0 *ℤ bp .y +ℤ w1′ *ℤ ba .y +ℤ w2′ *ℤ bb .y) (pos 0 +ℤ w0 *ℤ bp .z +ℤ w1′ *ℤ ba .z +ℤ w2′ *ℤ bb .z) (h .g3)
     g3 = gather-more g2 (omega arith) (w .begun .ofb .of-first, w .begun .ofb .of-second) (plain-nn a p c (met .w2)) (weight-most (weight-within (hd .ina) up (hd .inc))) (h .third)
 
-    g4 : Gather A B 4 (pos 0 +ℤ w0 *ℤ bp .x +ℤ w1′ *ℤ ba .x +ℤ w2′ *ℤ bb .x +ℤ w3 *ℤ bc .x) (pos 0 +ℤ w0 *ℤ bp .y +ℤ w1′ *ℤ ba .y +ℤ w2′ *ℤ bb .y +ℤ w3 *ℤ bc .y) (pos 0 +ℤ w0 *ℤ bp .z +ℤ w1′ *ℤ ba .z +ℤ w2′ *ℤ bb .z +ℤ w3 *ℤ bc .z) r
+    g4 : Gather A B 4 (pos 0 +ℤ w0 *ℤ bp .x +ℤ w1′ *ℤ ba .x +ℤ w2′ *ℤ bb .x +ℤ w3 *ℤ bc .x)
+        (pos 0 +ℤ w0 *ℤ bp .y +ℤ w1′ *ℤ ba .y +ℤ w2′ *ℤ bb .y +ℤ w3 *ℤ bc .y) (pos 0 +ℤ w0 *ℤ bp .z +ℤ w1′ *ℤ ba .z +ℤ w2′ *ℤ bb .z +ℤ w3 *ℤ bc .z) r
     g4 = gather-more g3 (omega arith) (w .begun .ofc .of-first, w .begun .ofc .of-second) (plain-nn a b p (met .w3)) (weight-most (weight-within (hd .ina) (hd .inb) up)) (h .fourth)
 
     back : (s t u v : ℤ) → pos 0 +ℤ s +ℤ t +ℤ u +ℤ v ≡ s +ℤ t +ℤ u +ℤ v
@@ -291,13 +297,14 @@ carries-penetrating {g} h w = record {
 }
 
 -- ---- the weak walk's ends, where the difference is nowhere flat
-module _ {A B : Piece} {f : Frame} {q : Vec3} {v : Three} {e : Ended} (pa : Placed A) (pb : Placed B) (k : Framed A B f) (eq : q ≡ sum3 (f .a .at) (f .b .at) (f .c .at)) (ev : v ≡ framePlaces f) (solid : f .solid ≡ true) (w : Walked A B (f .widths) q v e) where
+module _ {A B : Piece} {f : Frame} {q : Vec3} {v : Three} {e : Ended} (pa : Placed A) (pb : Placed B) (k : Framed A B f)
+    (eq : q ≡ sum3 (f .a .at) (f .b .at) (f .c .at)) (ev : v ≡ framePlaces f) (solid : f .solid ≡ true) (w : Walked A B (f .widths) q v e) where
   weak : Walked A B origin (sum3 (f .a .at) (f .b .at) (f .c .at)) (framePlaces f) e
   weak =
       subst (λ g. Walked A B g (sum3 (f .a .at) (f .b .at) (f .c .at)) (framePlaces f) e) (k .thin solid)
       (subst (λ u. Walked A B (f .widths) u (framePlaces f) e) eq (subst (λ u. Walked A B (f .widths) q u e) ev w))
 
-  with-no-box : {p : Point} → Tagged A B (f .widths) p → Spread A B origin (p .at)
+  with-no-box : {p : Difference} → Tagged A B (f .widths) p → Spread A B origin (p .at)
   with-no-box {p} t = subst (λ g. Spread A B g (p .at)) (k .thin solid) (spread-of t)
 
   pub touching-by : e .met ≡ false → Supported (e .normal) A B
@@ -328,15 +335,15 @@ near-at pa pb m =
     }
 
 -- a test of both lists: true says that all is well with both, false that the refusal applies
-pub record Tells (b : Bool) (Well Applies : Type 0) : Type 0 where
+pub record TestsBoth (b : Bool) (Well Applies : Type 0) : Type 0 where
   pub yes : b ≡ true → Well
   pub no : b ≡ false → Applies
 
-pub tells-no : {b : Bool} {P C : Type 0} → b ≡ false → C → Tells b P C
+pub tells-no : {b : Bool} {P C : Type 0} → b ≡ false → C → TestsBoth b P C
 tells-no e h = record { yes = λ t. absurd (subst T (sym t ∙ e) tt); no = λ _. h }
 
 -- of two tests, the second's answer where the first is passed
-pub tells-both : {b : Bool} {P Q : Type 0} → P → Decides b Q → Tells b (P × Q) ((P → ⊥) ⊎ (Q → ⊥))
+pub tells-both : {b : Bool} {P Q : Type 0} → P → Decides b Q → TestsBoth b (P × Q) ((P → ⊥) ⊎ (Q → ⊥))
 tells-both p d = record { yes = λ t. (p, d .yes t); no = λ f. inr (d .no f) }
 
 abbrev pub BothFit : Piece → Piece → Type 0

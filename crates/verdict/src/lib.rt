@@ -1,10 +1,10 @@
 // The verdict of two corner lists, exact and with witnesses: two walks at most, and what their ends say.
-// No tolerance and no limit on the turns: a measure falls with each of them (crate `verdict_walk`, specs/Ends.antt).
+// No tolerance and no limit on the rounds: a measure falls with each of them (crate `verdict_walk`, specs/Ends.antt).
 ghost use mathlib.Core.Path.{_≡_};
 ghost use Rattle.space.specs.Vectors.{origin};
 ghost use Rattle.space.specs.Lists.{Placed};
 ghost use Rattle.verdict.specs.Answers.{nothing, BadLength, OutOfReach, Carries, Answers};
-ghost use Rattle.verdict.specs.Judged.{meetingWith, MeetingAt, Tells, BothFit, BothNear};
+ghost use Rattle.verdict.specs.Judged.{meetingWith, MeetingAt, TestsBoth, BothFit, BothNear};
 use space::Pair;
 use space::Vec3;
 use space::in_reach;
@@ -78,13 +78,13 @@ fn meeting_verdict(f: Frame, e: Ended, first: &[i32], second: &[i32]) -> Answer
         let w = walk(shift_of(v), v, t, g, first, second);
         let inside = w.met;
         if inside {
-            return meeting_with(3, no_direction(), k);
+            return meeting_with(limits::PENETRATING, no_direction(), k);
         }
         let n = w.normal;
-        return meeting_with(2, n, k);
+        return meeting_with(limits::TOUCHING, n, k);
     }
     let d = f.flat;
-    meeting_with(2, d, k)
+    meeting_with(limits::TOUCHING, d, k)
 }
 
 // The verdict of two lists of placed corners, with its witnesses.
@@ -103,7 +103,7 @@ pub fn verdict(first: &[i32], second: &[i32]) -> Answer
     let n = e.normal;
     Answer {
         number: limits::DONE,
-        verdict: 1,
+        verdict: limits::SEPARATE,
         direction: n,
         count: 0,
         pairs: no_pairs(),
@@ -111,7 +111,7 @@ pub fn verdict(first: &[i32], second: &[i32]) -> Answer
 }
 
 fn lengths_fit(first: &[i32], second: &[i32]) -> bool
-    ensures { λ r. ⌜ Tells r (BothFit (now (first .entry)) (now (second .entry))) (BadLength (now (first .entry)) (now (second .entry))) ⌝ }
+    ensures { λ r. ⌜ TestsBoth r (BothFit (now (first .entry)) (now (second .entry))) (BadLength (now (first .entry)) (now (second .entry))) ⌝ }
 {
     if length_fits(first.len()) {
         return length_fits(second.len());
@@ -120,7 +120,7 @@ fn lengths_fit(first: &[i32], second: &[i32]) -> bool
 }
 
 fn both_near(first: &[i32], second: &[i32]) -> bool
-    ensures { λ r. ⌜ Tells r (BothNear (now (first .entry)) (now (second .entry))) (OutOfReach (now (first .entry)) (now (second .entry))) ⌝ }
+    ensures { λ r. ⌜ TestsBoth r (BothNear (now (first .entry)) (now (second .entry))) (OutOfReach (now (first .entry)) (now (second .entry))) ⌝ }
 {
     if in_reach(first, limits::PLACED_REACH) {
         return in_reach(second, limits::PLACED_REACH);

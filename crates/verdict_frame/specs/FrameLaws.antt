@@ -1,4 +1,4 @@
--- Laws of frames: each step of the scan, each kind of flat set, and that what is found starts a walk.
+-- Laws of frames: each look of the scan, each kind of flat set, and that what is found starts a walk.
 -- The definitions stand in Frames.
 use mathlib.Core.Path.{_≡_, refl, sym, ap, ap₂, _∙_, subst}
 use mathlib.Core.List.{[], _∷_}
@@ -24,16 +24,18 @@ use Rattle.space.specs.Ranges.{Upto, normalReach, upto-le}
 use Rattle.space.specs.Verdicts.{Piece, cornerCount, cornerAt, Supported}
 use Rattle.space.specs.Lists.{Placed}
 use Rattle.verdict_portal.specs.declared.Three.{Three}
-use Rattle.verdict_portal.specs.Flat.{had, vec, ones, Signs, unit, nextAxis, coordinate, turnedRound, axis, had-plus, f2-plane, f2-line, times-other, Drops, planeRow, drops-plane, drops-line, f5-line, f5-some}
+use Rattle.verdict_portal.specs.Flat.{had, vec, ones, Signs, unit, nextAxis, coordinate, turnedRound, axis, had-plus}
+use Rattle.verdict_portal.specs.Flat.{f2-plane, f2-line, times-other, Drops, planeRow, drops-plane, drops-line, f5-line, f5-some}
 use Rattle.verdict_portal.specs.Portal.{det-rot}
-use Rattle.verdict_walk.specs.declared.support.Point.{Point}
+use Rattle.verdict_walk.specs.declared.support.Difference.{Difference}
 use Rattle.verdict_walk.specs.declared.path.Portal.{Portal}
 use Rattle.verdict_frame.specs.declared.frame.Frame.{Frame}
 use Rattle.verdict_frame.specs.declared.frame.Found.{Found}
 use Rattle.verdict_walk.specs.Points.{Tagged, Box}
 use Rattle.verdict_walk.specs.PointLaws.{ones-signs, some-corner, plain-at, corner-upto}
 use Rattle.verdict_walk.specs.GatherLaws.{zero-bits}
-use Rattle.verdict_frame.specs.Frames.{differenceAt, Level, Rows, pickLeft, pickRight, leftAt, rightAt, scanned, AllLevel, Sought, Turned, Dropping, Framed, thickOf, solidFrame, planeFrame, AxisOf, lineFrame, lineRows, pointFrame, unitRows, OnLine, InPlane, planeRows, Some, Wide, Started}
+use Rattle.verdict_frame.specs.Frames.{differenceAt, Level, Rows, pickLeft, pickRight, leftAt, rightAt, scanned, AllLevel, Sought, ScannedAt, Dropping, Framed, thickOf}
+use Rattle.verdict_frame.specs.Frames.{solidFrame, planeFrame, AxisOf, lineFrame, lineRows, pointFrame, unitRows, OnLine, InPlane, planeRows, Some, Wide, FirstPortal}
 
 -- ---- the sizes of a sum and of a difference
 sum-within : {m n k : ℕ} {u v : ℤ} → T (leb (m + n) k) → Within m u → Within n v → Within k (u +ℤ v)
@@ -48,17 +50,17 @@ sum-upto {k} t u v e = subst (Upto k) (sym e) (record { ux = sum-within t (u .ux
 pub minus-upto : {m n k : ℕ} {a b y : Vec3} → T (leb (m + n) k) → Upto m a → Upto n b → y ≡ minus a b → Upto k y
 minus-upto {k} t u v e = subst (Upto k) (sym e) (record { ux = minus-within t (u .ux) (v .ux); uy = minus-within t (u .uy) (v .uy); uz = minus-within t (u .uz) (v .uz) })
 
-pub difference-tagged : {A B : Piece} {i j : ℕ} {p : Point} → p ≡ differenceAt A B i j → i < cornerCount A → j < cornerCount B → Tagged A B origin p
+pub difference-tagged : {A B : Piece} {i j : ℕ} {p : Difference} → p ≡ differenceAt A B i j → i < cornerCount A → j < cornerCount B → Tagged A B origin p
 difference-tagged {A} {B} {i} {j} e hi hj =
     subst (Tagged A B origin) (sym e) (record { of-first = hi; of-second = hj; signs = ones; are = ones-signs; is = sym (plain-at (cornerAt A i) (cornerAt B j) ones) })
 
-pub plain-tagged : {A B : Piece} {p : Point} → Tagged A B origin p → p .at ≡ minus (cornerAt A (p .first)) (cornerAt B (p .second))
+pub plain-tagged : {A B : Piece} {p : Difference} → Tagged A B origin p → p .at ≡ minus (cornerAt A (p .first)) (cornerAt B (p .second))
 plain-tagged {A} {B} {p} t = t .is ∙ plain-at (cornerAt A (p .first)) (cornerAt B (p .second)) (t .signs)
 
 pub difference-upto : {A B : Piece} {i j : ℕ} → Placed A → Placed B → i < cornerCount A → j < cornerCount B → Upto 262144 (minus (cornerAt A i) (cornerAt B j))
 difference-upto {i} {j} pa pb hi hj = minus-upto tt (corner-upto pa i hi) (corner-upto pb j hj) refl
 
-pub tagged-upto : {A B : Piece} {p : Point} → Placed A → Placed B → Tagged A B origin p → Upto 262144 (p .at)
+pub tagged-upto : {A B : Piece} {p : Difference} → Placed A → Placed B → Tagged A B origin p → Upto 262144 (p .at)
 tagged-upto pa pb t = subst (Upto 262144) (sym (plain-tagged t)) (difference-upto pa pb (t .of-first) (t .of-second))
 
 pub left-inside : (k m : ℕ) → 1 ≤ m → leftAt k m < m
@@ -97,20 +99,20 @@ scan-level {rows} {A} {B} pa pb h = record {
         (subst (λ b. Level rows (minus (cornerAt A (pickLeft b (cornerCount A + j))) (cornerAt B (pickRight b (cornerCount A + j) (cornerCount A)))))
         (le-ltb (cornerCount A + j) (cornerCount A) (omega arith)) (h (cornerCount A + j) (omega arith)))
 
-pub sought-found : {rows : Three} {A B : Piece} {p : Point} → Tagged A B origin p → (Level rows (p .at) → ⊥) → Sought rows A B (record { found = true; point = p })
+pub sought-found : {rows : Three} {A B : Piece} {p : Difference} → Tagged A B origin p → (Level rows (p .at) → ⊥) → Sought rows A B (record { found = true; point = p })
 sought-found t f = record { tagged = λ _. t; apart = λ _. f; none = λ e. absurd (subst T e tt) }
 
-pub sought-none : {rows : Three} {A B : Piece} {p : Point} → AllLevel rows A B → Sought rows A B (record { found = false; point = p })
+pub sought-none : {rows : Three} {A B : Piece} {p : Difference} → AllLevel rows A B → Sought rows A B (record { found = false; point = p })
 sought-none h = record { tagged = λ e. absurd (subst T (sym e) tt); apart = λ e. absurd (subst T (sym e) tt); none = λ _. h }
 
-pub turned : {A B : Piece} {k i j : ℕ} {p : Point} → Placed A → Placed B → k < cornerCount A + cornerCount B → i ≡ leftAt k (cornerCount A) → j ≡ rightAt k (cornerCount A)
-    → p ≡ differenceAt A B i j → Turned A B k p
-turned {A} {B} {k} {p} pa pb h ei ej e =
+pub scanned-at : {A B : Piece} {k i j : ℕ} {p : Difference} → Placed A → Placed B → k < cornerCount A + cornerCount B → i ≡ leftAt k (cornerCount A) → j ≡ rightAt k (cornerCount A)
+    → p ≡ differenceAt A B i j → ScannedAt A B k p
+scanned-at {A} {B} {k} {p} pa pb h ei ej e =
     let f : p ≡ differenceAt A B (leftAt k (cornerCount A)) (rightAt k (cornerCount A)) = e ∙ ap₂ (differenceAt A B) ei ej in
     let t = difference-tagged f (left-inside k (cornerCount A) (some-corner pa)) (right-inside k (cornerCount A) (cornerCount B) (some-corner pb) h) in
     record { tagged = t; near = upto-le tt (tagged-upto pa pb t); is = ap (λ q. q .at) f }
 
-thick-tagged : {A B : Piece} {g w : Vec3} {p : Point} → Tagged A B origin p → (s : Vec3) → Signs s → w ≡ had s g → Tagged A B g (thickOf p w)
+thick-tagged : {A B : Piece} {g w : Vec3} {p : Difference} → Tagged A B origin p → (s : Vec3) → Signs s → w ≡ had s g → Tagged A B g (thickOf p w)
 thick-tagged {p} t s hs e = record { of-first = t .of-first; of-second = t .of-second; signs = s; are = hs; is = ap₂ plus (plain-tagged t) e }
 
 ones-had : (g : Vec3) → g ≡ had ones g
@@ -186,7 +188,7 @@ origin-upto n = record { ux = zero-within; uy = zero-within; uz = zero-within }
     zero-within : Within n (pos 0)
     zero-within = record { abs = omega arith }
 
-pub framed-solid : {A B : Piece} {a b c : Point} → Tagged A B origin a → Tagged A B origin b → Tagged A B origin c → (det (a .at) (b .at) (c .at) ≡ pos 0 → ⊥) → Framed A B (solidFrame a b c)
+pub framed-solid : {A B : Piece} {a b c : Difference} → Tagged A B origin a → Tagged A B origin b → Tagged A B origin c → (det (a .at) (b .at) (c .at) ≡ pos 0 → ⊥) → Framed A B (solidFrame a b c)
 framed-solid {A} {B} ta tb tc f = record {
   ofa = ta;
   ofb = tb;
@@ -199,7 +201,7 @@ framed-solid {A} {B} ta tb tc f = record {
   reach = origin-upto directionReach;
 }
 
-pub framed-plane : {A B : Piece} {a b : Point} {n : Vec3} (j : ℕ) → Tagged A B origin a → Tagged A B origin b → n ≡ cross (a .at) (b .at) → Upto directionReach n → (coordinate j n ≡ pos 0 → ⊥)
+pub framed-plane : {A B : Piece} {a b : Difference} {n : Vec3} (j : ℕ) → Tagged A B origin a → Tagged A B origin b → n ≡ cross (a .at) (b .at) → Upto directionReach n → (coordinate j n ≡ pos 0 → ⊥)
     → AllLevel (record { a = n; b = n; c = n }) A B → Framed A B (planeFrame a b n j)
 framed-plane {A} {B} {a} {b} {n} j ta tb en u f h = record {
   ofa = thick-tagged ta ones ones-signs (ones-had (unit j));
@@ -236,11 +238,11 @@ not-along c y f e =
       three = by-ring (env1 c (env1 y [])) (search sides depth 9) refl ∙ ap (λ v. pos 0 -ℤ v .z) e;
     })
 
-pub framed-line : {A B : Piece} {a : Point} (j : ℕ) → Tagged A B origin a → Upto 262144 (a .at) → (coordinate j (a .at) ≡ pos 0 → ⊥) → AllLevel (lineRows (a .at)) A B → Framed A B (lineFrame a j)
+pub framed-line : {A B : Piece} {a : Difference} (j : ℕ) → Tagged A B origin a → Upto 262144 (a .at) → (coordinate j (a .at) ≡ pos 0 → ⊥) → AllLevel (lineRows (a .at)) A B → Framed A B (lineFrame a j)
 framed-line {A} {B} {a} j ta u nz h = record {
   ofa = thick-tagged ta ones ones-signs (ones-had (plus e f));
   ofb = thick-tagged ta (turnedRound (nextAxis j)) (axis (nextAxis j) .signs)
-      (turn (e) (f) ∙ sym (had-plus (turnedRound (nextAxis j)) e f ∙ ap₂ plus (axis (nextAxis j) .own) (axis (nextAxis j) .other)));
+      (minus-plus (e) (f) ∙ sym (had-plus (turnedRound (nextAxis j)) e f ∙ ap₂ plus (axis (nextAxis j) .own) (axis (nextAxis j) .other)));
   ofc = thick-tagged ta (turnedRound (nextAxis (nextAxis j))) (axis (nextAxis (nextAxis j)) .signs)
       (back (e) (f) ∙ sym (had-plus (turnedRound (nextAxis (nextAxis j))) e f ∙ ap₂ plus (axis (nextAxis j) .before) (axis (nextAxis (nextAxis j)) .own)));
   free = λ k. times-other (pos 4) (det (a .at) e f) (λ z. subst (λ w. T (ltZ (pos 0) w)) z tt) other (sym (f2-line (a .at) e f) ∙ k);
@@ -272,8 +274,8 @@ framed-line {A} {B} {a} j ta u nz h = record {
     other : det (a .at) e f ≡ pos 0 → ⊥
     other k = nz (sym (axis j .box (a .at)) ∙ k)
 
-    turn : (e f : Vec3) → minus f e ≡ plus (minus origin e) f
-    turn e f = vec-eq (r (e .x) (f .x)) (r (e .y) (f .y)) (r (e .z) (f .z))
+    minus-plus : (e f : Vec3) → minus f e ≡ plus (minus origin e) f
+    minus-plus e f = vec-eq (r (e .x) (f .x)) (r (e .y) (f .y)) (r (e .z) (f .z))
       where
         r : (u v : ℤ) → v -ℤ u ≡ (pos 0 -ℤ u) +ℤ v
         r u v = by-ring (u ∷ v ∷ []) (search sides depth 9) refl
@@ -352,7 +354,7 @@ pub axis-last : {v : Vec3} → v .x ≡ pos 0 → v .y ≡ pos 0 → AxisOf v 2
 axis-last ex ey = record { other = λ f ez. f (vec-eq ex ey ez) }
 
 -- ---- points
-pub point-eq : {u v : Vec3} {i j : ℕ} → u ≡ v → _≡_ {A = Point} (record { at = u; first = i; second = j }) (record { at = v; first = i; second = j })
+pub point-eq : {u v : Vec3} {i j : ℕ} → u ≡ v → _≡_ {A = Difference} (record { at = u; first = i; second = j }) (record { at = v; first = i; second = j })
 point-eq {i} {j} e = ap (λ w. record { at = w; first = i; second = j }) e
 
 -- ---- a dot that is tested for 0 by its bits
@@ -363,21 +365,21 @@ zero-decided {z} {C} w f g = go (eqb (ofZ w64 z) 0) refl
     go true e = holds refl (f (zero-bits w (eqb-true (ofZ w64 z) 0 e)))
     go false e = fails refl (λ k. eqb-false (ofZ w64 z) 0 e (ap (ofZ w64) (g k)))
 
-pub frame-eq : {s : Bool} {w w′ d d′ : Vec3} {a a′ b b′ c c′ : Point} → w ≡ w′ → a ≡ a′ → b ≡ b′ → c ≡ c′ → d ≡ d′
+pub frame-eq : {s : Bool} {w w′ d d′ : Vec3} {a a′ b b′ c c′ : Difference} → w ≡ w′ → a ≡ a′ → b ≡ b′ → c ≡ c′ → d ≡ d′
     → _≡_ {A = Frame} (record { solid = s; widths = w; a = a; b = b; c = c; flat = d }) (record { solid = s; widths = w′; a = a′; b = b′; c = c′; flat = d′ })
 frame-eq {s} ew ea eb ec ed = λ i. record { solid = s; widths = ew i; a = ea i; b = eb i; c = ec i; flat = ed i }
 
 pub some-of : {A B : Piece} {rows : Three} {r : Found} → rows ≡ unitRows → Sought rows A B r → r .found ≡ true → Some A B (r .point)
 some-of {r} er s e = record { tagged = s .tagged e; other = not-origin (r .point .at) (λ l. s .apart e (subst (λ w. Level w (r .point .at)) (sym er) l)) }
 
-pub wide-of : {A B : Piece} {a : Point} {rows : Three} {r : Found} → Some A B a → rows ≡ lineRows (a .at) → Sought rows A B r → r .found ≡ true → Wide A B a (r .point)
+pub wide-of : {A B : Piece} {a : Difference} {rows : Three} {r : Found} → Some A B a → rows ≡ lineRows (a .at) → Sought rows A B r → r .found ≡ true → Wide A B a (r .point)
 wide-of {a} {r} h er s e = record { tagged-a = h .tagged; tagged-b = s .tagged e; other = not-along (a .at) (r .point .at) (λ l. s .apart e (subst (λ w. Level w (r .point .at)) (sym er) l)) }
 
 pub level-is : {A B : Piece} {rows w : Three} → rows ≡ w → AllLevel rows A B → AllLevel w A B
 level-is {A} {B} e h = subst (λ r. AllLevel r A B) e h
 
 -- the product of two differences
-pub cross-near : {A B : Piece} {a b : Point} {n : Vec3} → Placed A → Placed B → Wide A B a b → n ≡ cross (a .at) (b .at) → Upto 137438953472 n
+pub cross-near : {A B : Piece} {a b : Difference} {n : Vec3} → Placed A → Placed B → Wide A B a b → n ≡ cross (a .at) (b .at) → Upto 137438953472 n
 cross-near {a} {b} pa pb h e = subst (Upto 137438953472) (sym e) (go (a .at) (b .at) (tagged-upto pa pb (h .tagged-a)) (tagged-upto pa pb (h .tagged-b)))
   where
     go : (u v : Vec3) → Upto 262144 u → Upto 262144 v → Upto 137438953472 (cross u v)
@@ -387,17 +389,17 @@ cross-near {a} {b} pa pb h e = subst (Upto 137438953472) (sym e) (go (a .at) (b 
 pub framed-at-a-point : {A B : Piece} {rows : Three} {r : Found} {f : Frame} → Placed A → Placed B → rows ≡ unitRows → Sought rows A B r → r .found ≡ false → f ≡ pointFrame → Framed A B f
 framed-at-a-point {A} {B} pa pb er s e ef = subst (Framed A B) (sym ef) (framed-point pa pb (level-is er (s .none e)))
 
-pub framed-on-a-line : {A B : Piece} {a : Point} {rows : Three} {r : Found} {f : Frame} → Placed A → Placed B → Some A B a → rows ≡ lineRows (a .at) → Sought rows A B r → r .found ≡ false
+pub framed-on-a-line : {A B : Piece} {a : Difference} {rows : Three} {r : Found} {f : Frame} → Placed A → Placed B → Some A B a → rows ≡ lineRows (a .at) → Sought rows A B r → r .found ≡ false
     → OnLine a f → Framed A B f
 framed-on-a-line {A} {B} pa pb h er s e l = subst (Framed A B) (sym (l .is)) (framed-line (l .axis-is) (h .tagged) (tagged-upto pa pb (h .tagged)) (l .of .other (h .other)) (level-is er (s .none e)))
 
-pub framed-in-a-plane : {A B : Piece} {a b : Point} {n : Vec3} {rows : Three} {r : Found} {f : Frame} → Placed A → Placed B → Wide A B a b → n ≡ cross (a .at) (b .at) → rows ≡ planeRows n
+pub framed-in-a-plane : {A B : Piece} {a b : Difference} {n : Vec3} {rows : Three} {r : Found} {f : Frame} → Placed A → Placed B → Wide A B a b → n ≡ cross (a .at) (b .at) → rows ≡ planeRows n
     → Sought rows A B r → r .found ≡ false → InPlane a b n f → Framed A B f
 framed-in-a-plane {A} {B} pa pb h en er s e l =
     subst (Framed A B) (sym (l .is))
     (framed-plane (l .axis-is) (h .tagged-a) (h .tagged-b) en (upto-le tt (cross-near pa pb h en)) (l .of .other (λ z. h .other (sym en ∙ z))) (level-is er (s .none e)))
 
-pub framed-solid-of : {A B : Piece} {a b : Point} {n : Vec3} {rows : Three} {r : Found} → Wide A B a b → n ≡ cross (a .at) (b .at) → rows ≡ planeRows n → Sought rows A B r → r .found ≡ true
+pub framed-solid-of : {A B : Piece} {a b : Difference} {n : Vec3} {rows : Three} {r : Found} → Wide A B a b → n ≡ cross (a .at) (b .at) → rows ≡ planeRows n → Sought rows A B r → r .found ≡ true
     → Framed A B (solidFrame a b (r .point))
 framed-solid-of {A} {B} {a} {b} {n} {r} h en er s e = framed-solid (h .tagged-a) (h .tagged-b) (s .tagged e)
     (λ z. s .apart e (subst (λ w. Level w (r .point .at)) (sym er) (let k = ap (λ v. dot v (r .point .at)) en ∙ z in record { one = k; two = k; three = k })))
@@ -407,7 +409,7 @@ pub rows-made : {a a′ b b′ c c′ : Vec3} → (a ≡ a′) × Upto normalRea
 rows-made p q r = (λ i. record { a = p .0 i; b = q .0 i; c = r .0 i }, record { one = p .1; two = q .1; three = r .1 })
 
 -- a frame has one portal to start from
-pub started-once : (f : Frame) {q r : Portal} → Started f q → Started f r → q ≡ r
+pub started-once : (f : Frame) {q r : Portal} → FirstPortal f q → FirstPortal f r → q ≡ r
 started-once f (inl a) (inl b) = a .1 ∙ sym (b .1)
 started-once f (inl a) (inr b) = clashℤ (a .0) (b .0)
 started-once f (inr a) (inl b) = clashℤ (b .0) (a .0)

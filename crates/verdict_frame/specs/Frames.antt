@@ -14,14 +14,14 @@ use Rattle.space.specs.Ranges.{Upto, pointReach, normalReach}
 use Rattle.space.specs.Verdicts.{Piece, cornerCount, cornerAt, Supported}
 use Rattle.verdict_portal.specs.declared.Three.{Three}
 use Rattle.verdict_portal.specs.Flat.{had, vec, ones, Signs, unit, nextAxis, coordinate, axis, Drops, lineRow}
-use Rattle.verdict_walk.specs.declared.support.Point.{Point}
+use Rattle.verdict_walk.specs.declared.support.Difference.{Difference}
 use Rattle.verdict_walk.specs.declared.path.Portal.{Portal}
 use Rattle.verdict_frame.specs.declared.frame.Frame.{Frame}
 use Rattle.verdict_frame.specs.declared.frame.Found.{Found}
 use Rattle.verdict_walk.specs.Points.{Tagged, Box}
 
 -- ---- a difference of two corners, with their numbers
-abbrev pub differenceAt : Piece → Piece → ℕ → ℕ → Point
+abbrev pub differenceAt : Piece → Piece → ℕ → ℕ → Difference
 differenceAt A B i j = record { at = minus (cornerAt A i) (cornerAt B j); first = i; second = j }
 
 -- ---- level with three rows
@@ -64,8 +64,8 @@ pub record Sought (rows : Three) (A B : Piece) (r : Found) : Type 0 where
   pub apart : r .found ≡ true → Level rows (r .point .at) → ⊥
   pub none : r .found ≡ false → AllLevel rows A B
 
--- turn k of the scan looks at a difference of the two lists
-pub record Turned (A B : Piece) (k : ℕ) (p : Point) : Type 0 where
+-- the k-th look of the scan is at a difference of the two lists
+pub record ScannedAt (A B : Piece) (k : ℕ) (p : Difference) : Type 0 where
   pub tagged : Tagged A B origin p
   pub near : Upto pointReach (p .at)
   pub is : p .at ≡ scanned A B k
@@ -92,15 +92,15 @@ pub record Framed (A B : Piece) (r : Frame) : Type 0 where
   pub reach : Upto directionReach (r .flat)
 
 -- ---- what is thick
-abbrev pub thickOf : Point → Vec3 → Point
+abbrev pub thickOf : Difference → Vec3 → Difference
 thickOf p w = record { at = plus (p .at) w; first = p .first; second = p .second }
 
 -- ---- r = 3: nowhere flat
-abbrev pub solidFrame : Point → Point → Point → Frame
+abbrev pub solidFrame : Difference → Difference → Difference → Frame
 solidFrame a b c = record { solid = true; widths = origin; a = a; b = b; c = c; flat = origin }
 
 -- ---- r = 2: in the plane of n
-abbrev pub planeFrame : Point → Point → Vec3 → ℕ → Frame
+abbrev pub planeFrame : Difference → Difference → Vec3 → ℕ → Frame
 planeFrame a b n j = record { solid = false; widths = unit j; a = thickOf a (unit j); b = thickOf b (unit j); c = thickOf a (opposite (unit j)); flat = n }
 
 -- the axis along which a vector that is not the origin is not 0
@@ -108,7 +108,7 @@ pub record AxisOf (v : Vec3) (r : ℕ) : Type 0 where
   pub other : (v ≡ origin → ⊥) → coordinate r v ≡ pos 0 → ⊥
 
 -- ---- r = 1: on the line of a, e and f the axes besides that of a coordinate of a that is not 0
-abbrev pub lineFrame : Point → ℕ → Frame
+abbrev pub lineFrame : Difference → ℕ → Frame
 lineFrame a j = record {
   solid = false;
   widths = plus (unit (nextAxis j)) (unit (nextAxis (nextAxis j)));
@@ -138,12 +138,12 @@ abbrev pub unitRows : Three
 unitRows = record { a = unit 0; b = unit 1; c = unit 2 }
 
 -- ---- what the code makes, by the axis that it finds
-pub record OnLine (a : Point) (r : Frame) : Type 0 where
+pub record OnLine (a : Difference) (r : Frame) : Type 0 where
   pub axis-is : ℕ
   pub of : AxisOf (a .at) axis-is
   pub is : r ≡ lineFrame a axis-is
 
-pub record InPlane (a b : Point) (n : Vec3) (r : Frame) : Type 0 where
+pub record InPlane (a b : Difference) (n : Vec3) (r : Frame) : Type 0 where
   pub axis-is : ℕ
   pub of : AxisOf n axis-is
   pub is : r ≡ planeFrame a b n axis-is
@@ -153,12 +153,12 @@ abbrev pub planeRows : Vec3 → Three
 planeRows n = record { a = n; b = n; c = n }
 
 -- what the second scan begins with: a difference that is not the origin
-pub record Some (A B : Piece) (a : Point) : Type 0 where
+pub record Some (A B : Piece) (a : Difference) : Type 0 where
   pub tagged : Tagged A B origin a
   pub other : a .at ≡ origin → ⊥
 
 -- and the third: two that are not along one line
-pub record Wide (A B : Piece) (a b : Point) : Type 0 where
+pub record Wide (A B : Piece) (a b : Difference) : Type 0 where
   pub tagged-a : Tagged A B origin a
   pub tagged-b : Tagged A B origin b
   pub other : cross (a .at) (b .at) ≡ origin → ⊥
@@ -167,7 +167,7 @@ pub record Wide (A B : Piece) (a b : Point) : Type 0 where
 abbrev pub framePlaces : Frame → Three
 framePlaces f = record { a = f .a .at; b = f .b .at; c = f .c .at }
 
-abbrev pub Started : Frame → Portal → Type 0
-Started f r =
+abbrev pub FirstPortal : Frame → Portal → Type 0
+FirstPortal f r =
     ((det (f .a .at) (f .b .at) (f .c .at) <ℤ pos 0) × (r ≡ record { a = f .a; b = f .b; c = f .c }))
     ⊎ ((pos 0 ≤ℤ det (f .a .at) (f .b .at) (f .c .at)) × (r ≡ record { a = f .a; b = f .c; c = f .b }))

@@ -11,7 +11,8 @@ ghost use Rattle.space.specs.Lists.{Placed};
 ghost use Rattle.verdict_walk.specs.Ends.{Corners};
 ghost use Rattle.limits.specs.Decides.{Decides};
 ghost use Rattle.verdict_portal.specs.Flat.{unit, nextAxis};
-ghost use Rattle.verdict_frame.specs.Frames.{differenceAt, Rows, Level, leftAt, rightAt, Sought, AxisOf, thickOf, pointFrame, OnLine, InPlane, unitRows, lineRows, planeRows, Some, Wide, Framed, framePlaces, Started};
+ghost use Rattle.verdict_frame.specs.Frames.{differenceAt, Rows, Level, leftAt, rightAt, Sought, AxisOf, thickOf, pointFrame, OnLine, InPlane};
+ghost use Rattle.verdict_frame.specs.Frames.{unitRows, lineRows, planeRows, Some, Wide, Framed, framePlaces, FirstPortal};
 ghost use Rattle.verdict_portal.specs.Exits.{sum3};
 use space::Vec3;
 use space::cross;
@@ -21,28 +22,28 @@ use space::minus;
 use space::opposite;
 use space::plus;
 use verdict_portal::Three;
-use verdict_walk::Point;
+use verdict_walk::Difference;
 use verdict_walk::Portal;
 use verdict_walk::corner;
 
 // What a scan of the differences found: the first that is not level with three rows.
 pub struct Found {
     pub found: bool,
-    pub point: Point,
+    pub point: Difference,
 }
 
 // Three independent points of the difference; where it is flat, a box that makes it thick, and a direction that it is level with.
 pub struct Frame {
     pub solid: bool,
     pub widths: Vec3,
-    pub a: Point,
-    pub b: Point,
-    pub c: Point,
+    pub a: Difference,
+    pub b: Difference,
+    pub c: Difference,
     pub flat: Vec3,
 }
 
 // Corner i of the first list less corner j of the second.
-fn difference(first: &[i32], second: &[i32], i: usize, j: usize) -> Point
+fn difference(first: &[i32], second: &[i32], i: usize, j: usize) -> Difference
     requires { ⌜ Placed (now first) × Placed (now second) ⌝ }
     requires { ⌜ (i < cornerCount (now first)) × (j < cornerCount (now second)) ⌝ }
     ensures { λ r. ⌜ r ≡ differenceAt (now (first .entry)) (now (second .entry)) i j ⌝ }
@@ -50,7 +51,7 @@ fn difference(first: &[i32], second: &[i32], i: usize, j: usize) -> Point
     let a = corner(first, i);
     let b = corner(second, j);
     let at = minus(a, b);
-    Point {
+    Difference {
         at: at,
         first: i,
         second: j,
@@ -74,7 +75,7 @@ fn level(rows: Three, p: Vec3) -> bool
     dot(c, p) == 0
 }
 
-// The two corners of turn k of the scan: every corner of the first list with the other's first, then the first with every one of the other.
+// The two corners of the k-th look of the scan: every corner of the first list with the other's first, then the first with every one of the other.
 fn left_at(k: usize, m: usize) -> usize
     ensures { λ r. ⌜ r ≡ leftAt k m ⌝ }
 {
@@ -161,7 +162,7 @@ fn unit(j: usize) -> Vec3
 }
 
 // p moved by w: still of the same two corners.
-fn thick(p: Point, w: Vec3) -> Point
+fn thick(p: Difference, w: Vec3) -> Difference
     requires { ⌜ Upto pointReach (p .at) × Upto pointReach w ⌝ }
     ensures { λ r. ⌜ r ≡ thickOf p w ⌝ }
 {
@@ -169,7 +170,7 @@ fn thick(p: Point, w: Vec3) -> Point
     let i = p.first;
     let j = p.second;
     let at = plus(y, w);
-    Point {
+    Difference {
         at: at,
         first: i,
         second: j,
@@ -183,17 +184,17 @@ fn at_a_point() -> Frame
     let u = Vec3 { x: 1, y: 1, z: 1 };
     let v = Vec3 { x: -1, y: 1, z: 1 };
     let w = Vec3 { x: 1, y: -1, z: 1 };
-    let a = Point {
+    let a = Difference {
         at: u,
         first: 0,
         second: 0,
     };
-    let b = Point {
+    let b = Difference {
         at: v,
         first: 0,
         second: 0,
     };
-    let c = Point {
+    let c = Difference {
         at: w,
         first: 0,
         second: 0,
@@ -210,7 +211,7 @@ fn at_a_point() -> Frame
 }
 
 // All differences are along a: a box along the two axes besides one of a's.
-fn on_a_line(a: Point) -> Frame
+fn on_a_line(a: Difference) -> Frame
     requires { ⌜ Upto 262144 (a .at) ⌝ }
     ensures { λ r. ⌜ OnLine a r ⌝ }
 {
@@ -230,7 +231,7 @@ fn on_a_line(a: Point) -> Frame
 }
 
 // All differences are in the plane of n, which is a × b: a box along an axis that leaves it.
-fn in_a_plane(a: Point, b: Point, n: Vec3) -> Frame
+fn in_a_plane(a: Difference, b: Difference, n: Vec3) -> Frame
     requires { ⌜ Upto 262144 (a .at) × Upto 262144 (b .at) × Upto normalReach n ⌝ }
     ensures { λ r. ⌜ InPlane a b n r ⌝ }
 {
@@ -278,7 +279,7 @@ fn plane_rows(n: Vec3) -> Three
 }
 
 // The frame, once two differences are known that are not along one line.
-fn frame_in_space(a: Point, b: Point, first: &[i32], second: &[i32]) -> Frame
+fn frame_in_space(a: Difference, b: Difference, first: &[i32], second: &[i32]) -> Frame
     requires { ⌜ Placed (now first) × Placed (now second) ⌝ }
     requires { ⌜ Wide (now first) (now second) a b ⌝ }
     ensures { λ r. ⌜ Framed (now (first .entry)) (now (second .entry)) r ⌝ }
@@ -303,7 +304,7 @@ fn frame_in_space(a: Point, b: Point, first: &[i32], second: &[i32]) -> Frame
 }
 
 // The frame, once one difference is known that is not the origin.
-fn frame_off_the_point(a: Point, first: &[i32], second: &[i32]) -> Frame
+fn frame_off_the_point(a: Difference, first: &[i32], second: &[i32]) -> Frame
     requires { ⌜ Placed (now first) × Placed (now second) ⌝ }
     requires { ⌜ Some (now first) (now second) a ⌝ }
     ensures { λ r. ⌜ Framed (now (first .entry)) (now (second .entry)) r ⌝ }
@@ -358,7 +359,7 @@ fn right_way(v: Three) -> bool
 // The portal that a frame's three points make, the right way round.
 pub fn start_of(f: Frame) -> Portal
     requires { ⌜ Corners (framePlaces f) ⌝ }
-    ensures { λ r. ⌜ Started f r ⌝ }
+    ensures { λ r. ⌜ FirstPortal f r ⌝ }
 {
     let a = f.a;
     let b = f.b;

@@ -11,7 +11,7 @@ use Rattle.space.specs.Vectors.{dot, plus, det, env1, origin, vec-eq}
 use Rattle.verdict_portal.specs.Portal.{zero-sum-dot, frame-zero}
 use Rattle.ints.specs.Sign.{Under, lex, lex-other, same-sym, l2, lt-other, gt-other}
 use Rattle.verdict_portal.specs.Sizes.{bigK, posK, hat, hat-dot}
-use Rattle.verdict_portal.specs.Step.{Met}
+use Rattle.verdict_portal.specs.Round.{Met}
 
 -- p is a support of D along n
 pub record Support (D : Vec3 → Type 0) (n p : Vec3) : Type 0 where

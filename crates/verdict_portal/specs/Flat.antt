@@ -54,7 +54,7 @@ turnedRound (suc zero) = vec (pos 1) (negsuc 0) (pos 1)
 turnedRound (suc (suc j)) = vec (pos 1) (pos 1) (negsuc 0)
 
 -- an axis as the table of flat sets needs it
-pub record Axis (j : ℕ) : Type 0 where
+pub record FlatAxis (j : ℕ) : Type 0 where
   pub spread : (s : Vec3) → had s (unit j) ≡ scale (coordinate j s) (unit j)
   pub along : (v : Vec3) → dot v (unit j) ≡ coordinate j v
   pub signs : Signs (turnedRound j)
@@ -66,7 +66,7 @@ pub record Axis (j : ℕ) : Type 0 where
 nil : (u v : ℤ) → u *ℤ pos 0 ≡ v *ℤ pos 0
 nil u v = *ℤ-zero u ∙ sym (*ℤ-zero v)
 
-pub axis : (j : ℕ) → Axis j
+pub axis : (j : ℕ) → FlatAxis j
 axis zero = record {
   spread = λ s. vec-eq refl (nil (s .y) (s .x)) (nil (s .z) (s .x));
   along = λ v. by-ring (env1 v []) (search sides depth 9) refl;

@@ -3,5 +3,5 @@ pub mod Flat
 pub mod Portal
 pub mod Shift
 pub mod Sizes
-pub mod Step
-pub mod Turn
+pub mod Round
+pub mod Rounds

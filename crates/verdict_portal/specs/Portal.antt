@@ -122,7 +122,7 @@ frame-zero c1 c2 c3 m y f e1 e2 e3 = ⊎-elim (λ e. absurd (f e)) (λ e. e)
     nil : {u : ℤ} → u ≡ pos 0 → (v : ℤ) → u *ℤ v ≡ pos 0
     nil e v = ap (λ w. w *ℤ v) e ∙ zero-*ℤ v
 
--- ---- B3, B4: what follows a step
+-- ---- B3, B4: what follows a round
 -- the new portal (a′, b′, c′) is one of the ray's, and further on than (a, b, c): s' h > s h'
 pub record Onward (a b c r a′ b′ c′ : Vec3) : Type 0 where
   pub inv : Inv a′ b′ c′ r

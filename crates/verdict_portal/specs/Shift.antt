@@ -135,8 +135,8 @@ k5 l c1 c2 c3 h d = record {
   g3 = subst (λ z. pos 0 <ℤ z) (by-ring (l ∷ env1 c1 (env1 c2 (env1 c3 []))) (search sides depth 40) refl) (<ℤ-neg d);
 }
 
-pub k5-turned : (l : ℤ) (c1 c2 c3 : Vec3) → pos 0 <ℤ l → pos 0 <ℤ det c1 c2 c3 → Inv c1 c3 c2 (ray l c1 c2 c3)
-k5-turned l c1 c2 c3 h d = record {
+pub k5-flipped : (l : ℤ) (c1 c2 c3 : Vec3) → pos 0 <ℤ l → pos 0 <ℤ det c1 c2 c3 → Inv c1 c3 c2 (ray l c1 c2 c3)
+k5-flipped l c1 c2 c3 h d = record {
   hp = subst (λ z. pos 0 <ℤ z) (by-ring (env1 c1 (env1 c2 (env1 c3 []))) (search sides depth 40) refl) d;
   g1 = subst (λ z. pos 0 <ℤ z) (by-ring (l ∷ env1 c1 (env1 c2 (env1 c3 []))) (search sides depth 40) refl) (pos-mul (pos-mul h h) d);
   g2 = subst (λ z. pos 0 <ℤ z) (by-ring (l ∷ env1 c1 (env1 c2 (env1 c3 []))) (search sides depth 40) refl) d;

@@ -12,7 +12,7 @@ use Rattle.space.specs.Vectors.{dot, cross, minus, det, normal, env1, origin}
 use Rattle.space.specs.Ranges.{Upto, pointReach, shiftReach}
 use Rattle.verdict_portal.specs.Portal.{Inv, depth, reach}
 use Rattle.ints.specs.Sign.{Same, Under, under}
-use Rattle.verdict_portal.specs.Shift.{shift, ray, row, side, side-low, front, tie, k1-sign, k2-sign, k2-normal, k3-one, k3-sign, k4, k4-back, k5, k5-turned}
+use Rattle.verdict_portal.specs.Shift.{shift, ray, row, side, side-low, front, tie, k1-sign, k2-sign, k2-normal, k3-one, k3-sign, k4, k4-back, k5, k5-flipped}
 
 unfoldable pub bigL : ℤ
 bigL = pos 1152921504606846976
@@ -128,9 +128,9 @@ pub start : (c1 c2 c3 : Vec3) → det c1 c2 c3 <ℤ pos 0 → Inv c1 c2 c3 (beam
 unfolding beam
 start c1 c2 c3 d = k5 bigL c1 c2 c3 posL d
 
-pub start-turned : (c1 c2 c3 : Vec3) → pos 0 <ℤ det c1 c2 c3 → Inv c1 c3 c2 (beam c1 c2 c3)
+pub start-flipped : (c1 c2 c3 : Vec3) → pos 0 <ℤ det c1 c2 c3 → Inv c1 c3 c2 (beam c1 c2 c3)
 unfolding beam
-start-turned c1 c2 c3 d = k5-turned bigL c1 c2 c3 posL d
+start-flipped c1 c2 c3 d = k5-flipped bigL c1 c2 c3 posL d
 
 -- where the shift is by nothing, a determinant has the sign of the plain one
 pub plain-nn : (p b c : Vec3) → pos 0 ≤ℤ det (hat origin p) (hat origin b) (hat origin c) → pos 0 ≤ℤ det p b c

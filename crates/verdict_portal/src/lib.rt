@@ -1,4 +1,4 @@
-// One turn of the walk: which corner of the portal the new point replaces, or that the origin is met.
+// One round of the walk: which corner of the portal the new point replaces, or that the origin is met.
 // All signs are of small numbers; specs/ shows what they say of the shifted points, of which the walk's proof speaks.
 use space::Vec3;
 use space::cross;
@@ -11,7 +11,7 @@ ghost use lib.IntN.{pos};
 ghost use lib.Signed.{ltZ};
 ghost use Rattle.space.specs.Ranges.{Upto, pointReach, shiftReach, crossReach};
 ghost use Rattle.verdict_portal.specs.Shift.{side, tie};
-ghost use Rattle.verdict_portal.specs.Turn.{leadingOf, rot, chosen, Ready, First, Beside, Choice, Turned};
+ghost use Rattle.verdict_portal.specs.Rounds.{leadingOf, rot, chosen, Ready, First, Beside, Choice, RoundSays};
 
 // Three points: a portal, or the frame whose ray decides ties.
 pub struct Three {
@@ -70,7 +70,7 @@ fn choose(n: bool, x: u8, y: u8) -> u8
     y
 }
 
-// In the first slot's turn: whether p takes the second corner's place, and not the first's.
+// In the first slot's round: whether p takes the second corner's place, and not the first's.
 fn beside(q: Vec3, f: Three, t: Three, p: Vec3) -> bool
     requires { ⌜ Ready q f t p ⌝ }
     requires { ⌜ First q t p ⌝ }
@@ -84,7 +84,7 @@ fn beside(q: Vec3, f: Three, t: Three, p: Vec3) -> bool
     false
 }
 
-// The slot whose turn it is: 1, 2 or 3, or 0 where p is inside at all three edges.
+// The slot whose round it is: 1, 2 or 3, or 0 where p is inside at all three edges.
 fn slot_of(q: Vec3, f: Three, t: Three, p: Vec3) -> u8
     requires { ⌜ Ready q f t p ⌝ }
     ensures { λ r. ⌜ Choice q t p r ⌝ }
@@ -101,10 +101,10 @@ fn slot_of(q: Vec3, f: Three, t: Three, p: Vec3) -> u8
     choose(outside(q, p, a, b), 3, 0)
 }
 
-// One turn: the corner that p replaces, 1, 2 or 3; or 0, and the origin is met.
-pub fn step(q: Vec3, f: Three, t: Three, p: Vec3) -> u8
+// One round: the corner that p replaces, 1, 2 or 3; or 0, and the origin is met.
+pub fn round(q: Vec3, f: Three, t: Three, p: Vec3) -> u8
     requires { ⌜ Ready q f t p ⌝ }
-    ensures { λ r. ⌜ Turned q f t p r ⌝ }
+    ensures { λ r. ⌜ RoundSays q f t p r ⌝ }
 {
     let s = slot_of(q, f, t, p);
     if s == 0 {

@@ -1,4 +1,4 @@
--- Laws of a walk's ends: what each turn keeps, that the ends are as promised, and that whether they met is one.
+-- Laws of a walk's ends: what each round keeps, that the ends are as promised, and that whether they met is one.
 -- The definitions stand in Ends.
 use mathlib.Core.Path.{_≡_, refl, sym, ap, ap₂, _∙_, subst}
 use mathlib.Core.Bool.{Bool, true, false}
@@ -18,13 +18,13 @@ use Rattle.space.specs.Verdicts.{Piece}
 use Rattle.verdict_portal.specs.declared.Three.{Three}
 use Rattle.verdict_portal.specs.Sizes.{bigK, front-under}
 use Rattle.verdict_portal.specs.Exits.{not-behind, x1}
-use Rattle.verdict_portal.specs.Turn.{Ready, Turned}
-use Rattle.verdict_walk.specs.declared.support.Point.{Point}
+use Rattle.verdict_portal.specs.Rounds.{Ready, RoundSays}
+use Rattle.verdict_walk.specs.declared.support.Difference.{Difference}
 use Rattle.verdict_walk.specs.declared.path.Portal.{Portal}
 use Rattle.verdict_walk.specs.declared.path.Ended.{Ended}
 use Rattle.verdict_walk.specs.Points.{Tagged, Supports}
 use Rattle.verdict_walk.specs.PointLaws.{spread-of, spread-upto}
-use Rattle.verdict_walk.specs.Ends.{placesOf, Ground, Begun, Walked, Replaced, Corners, Onward}
+use Rattle.verdict_walk.specs.Ends.{placesOf, Ground, Begun, Walked, Replaced, Corners, WalksOn}
 
 -- by which of its two ends a walk ends is one; where it ends may vary
 clash : {A B : Piece} {g q : Vec3} {f : Three} {r s : Ended} → Walked A B g q f r → Walked A B g q f s → r .met ≡ true → s .met ≡ false → ⊥
@@ -42,7 +42,7 @@ walked-once {A} {B} {g} {q} {f} {r} {s} v w = go (r .met) (s .met) refl refl
 pub corners : {A B : Piece} {g q : Vec3} {f v : Three} {t : Portal} → v ≡ placesOf t → Begun A B g q f t → Corners v
 corners e b = subst Corners (sym e) (record { ina = b .held .ina; inb = b .held .inb; inc = b .held .inc })
 
-pub point-upto : {A B : Piece} {g : Vec3} {p : Point} → Ground A B g → Tagged A B g p → Upto pointReach (p .at)
+pub point-upto : {A B : Piece} {g : Vec3} {p : Difference} → Ground A B g → Tagged A B g p → Upto pointReach (p .at)
 point-upto k t = spread-upto (k .first) (k .second) (k .box) (spread-of t)
 
 -- ---- the normal, from its parts
@@ -63,7 +63,8 @@ whole t {r} k e1 e2 e3 e e′ = (is, subst (Upto normalReach) (sym is) (sum k))
     sum k = record { ux = within (search known depth 9) tt; uy = within (search known depth 9) tt; uz = within (search known depth 9) tt }
 
 -- ---- the ends
-module _ {A B : Piece} {g q n : Vec3} {f v : Three} {t : Portal} {p : Point} (b : Begun A B g q f t) (ev : v ≡ placesOf t) (en : (n ≡ normal (v .a) (v .b) (v .c)) × Upto normalReach n) (s : Supports A B g n p) where
+module _ {A B : Piece} {g q n : Vec3} {f v : Three} {t : Portal} {p : Difference} (b : Begun A B g q f t) (ev : v ≡ placesOf t)
+    (en : (n ≡ normal (v .a) (v .b) (v .c)) × Upto normalReach n) (s : Supports A B g n p) where
   normal-at : n ≡ normal (t .a .at) (t .b .at) (t .c .at)
   normal-at = en .0 ∙ ap (λ w. normal (w .a) (w .b) (w .c)) ev
 
@@ -81,38 +82,38 @@ module _ {A B : Piece} {g q n : Vec3} {f v : Three} {t : Portal} {p : Point} (b 
   ready k h = subst (λ w. Ready q f w (p .at)) (sym ev)
       (record { setting = b .setting; held = b .held; inp = point-upto k (s .tagged); fore = subst (λ m. pos 0 ≤ℤ lex (dot m (p .at)) (dot m q)) normal-at h })
 
-  pub walked-met : {r : ℕ} → Turned q f v (p .at) r → r ≡ 0 → Walked A B g q f (record { met = true; portal = t; normal = n; last = p })
+  pub walked-met : {r : ℕ} → RoundSays q f v (p .at) r → r ≡ 0 → Walked A B g q f (record { met = true; portal = t; normal = n; last = p })
   walked-met {r} u e = record {
     begun = b;
     normal-is = normal-at;
     reach = en .1;
     last = s .tagged;
     apart = λ k. absurd (subst T k tt);
-    met = λ _. subst (λ w. Turned q f w (p .at) r) ev u .met e;
+    met = λ _. subst (λ w. RoundSays q f w (p .at) r) ev u .met e;
   }
 
-pub onward : {A B : Piece} {g q : Vec3} {f v : Three} {t u : Portal} {p : Point} {r : ℕ} → Begun A B g q f t → v ≡ placesOf t → Tagged A B g p → Turned q f v (p .at) r → (r ≡ 0 → ⊥)
-    → Replaced t r p u → Onward A B g q f t u
-onward {A} {B} {g} {q} {f} {t} {u} {p} {r} b ev tp w n0 k = go (subst (λ x. Turned q f x (p .at) r) ev w) (lt-or-ge r 2)
+pub onward : {A B : Piece} {g q : Vec3} {f v : Three} {t u : Portal} {p : Difference} {r : ℕ} → Begun A B g q f t → v ≡ placesOf t → Tagged A B g p → RoundSays q f v (p .at) r → (r ≡ 0 → ⊥)
+    → Replaced t r p u → WalksOn A B g q f t u
+onward {A} {B} {g} {q} {f} {t} {u} {p} {r} b ev tp w n0 k = go (subst (λ x. RoundSays q f x (p .at) r) ev w) (lt-or-ge r 2)
   where
-    first : Turned q f (placesOf t) (p .at) r → r ≡ 1 → Onward A B g q f t u
-    first w e = subst (Onward A B g q f t) (sym (k .one e)) (record { begun = record { setting = b .setting; held = w .one e .held; ofa = tp; ofb = b .ofb; ofc = b .ofc }; less = w .one e .less })
+    first : RoundSays q f (placesOf t) (p .at) r → r ≡ 1 → WalksOn A B g q f t u
+    first w e = subst (WalksOn A B g q f t) (sym (k .one e)) (record { begun = record { setting = b .setting; held = w .one e .held; ofa = tp; ofb = b .ofb; ofc = b .ofc }; less = w .one e .less })
 
-    second : Turned q f (placesOf t) (p .at) r → r ≡ 2 → Onward A B g q f t u
-    second w e = subst (Onward A B g q f t) (sym (k .two e)) (record { begun = record { setting = b .setting; held = w .two e .held; ofa = b .ofa; ofb = tp; ofc = b .ofc }; less = w .two e .less })
+    second : RoundSays q f (placesOf t) (p .at) r → r ≡ 2 → WalksOn A B g q f t u
+    second w e = subst (WalksOn A B g q f t) (sym (k .two e)) (record { begun = record { setting = b .setting; held = w .two e .held; ofa = b .ofa; ofb = tp; ofc = b .ofc }; less = w .two e .less })
 
-    third : Turned q f (placesOf t) (p .at) r → (r ≡ 1 → ⊥) → (r ≡ 2 → ⊥) → Onward A B g q f t u
+    third : RoundSays q f (placesOf t) (p .at) r → (r ≡ 1 → ⊥) → (r ≡ 2 → ⊥) → WalksOn A B g q f t u
     third w n1 n2 =
-        let m = w .rest n0 n1 n2 in subst (Onward A B g q f t) (sym (k .rest n1 n2))
+        let m = w .rest n0 n1 n2 in subst (WalksOn A B g q f t) (sym (k .rest n1 n2))
         (record { begun = record { setting = b .setting; held = m .held; ofa = b .ofa; ofb = b .ofb; ofc = tp }; less = m .less })
 
-    go : Turned q f (placesOf t) (p .at) r → (r < 2) ⊎ (2 ≤ r) → Onward A B g q f t u
+    go : RoundSays q f (placesOf t) (p .at) r → (r < 2) ⊎ (2 ≤ r) → WalksOn A B g q f t u
     go w (inl h) = first w (one n0 h)
       where
         one : (r ≡ 0 → ⊥) → r < 2 → r ≡ 1
         one a b = omega arith
     go w (inr h) = two w (lt-or-ge 2 r)
       where
-        two : Turned q f (placesOf t) (p .at) r → (2 < r) ⊎ (r ≤ 2) → Onward A B g q f t u
+        two : RoundSays q f (placesOf t) (p .at) r → (2 < r) ⊎ (r ≤ 2) → WalksOn A B g q f t u
         two w (inl l) = third w (λ e. omega arith) (λ e. omega arith)
         two w (inr l) = second w (omega arith)

@@ -9,26 +9,26 @@ use Rattle.space.specs.declared.Vec3.{Vec3}
 use Rattle.space.specs.declared.Pair.{Pair}
 use Rattle.space.specs.Vectors.{minus, det}
 use Rattle.space.specs.Verdicts.{Piece, cornerAt, weighted, Fair}
-use Rattle.verdict_walk.specs.declared.support.Point.{Point}
+use Rattle.verdict_walk.specs.declared.support.Difference.{Difference}
 use Rattle.verdict_walk.specs.declared.path.Ended.{Ended}
 use Rattle.verdict_walk.specs.declared.gather.Gathered.{Gathered}
 use Rattle.verdict_walk.specs.NoPairs.{noPair, noPairs}
 
-abbrev pub pairOf : Point → ℤ → Pair
-pairOf p w = record { first = p .first; second = p .second; weight = w }
+abbrev pub weighedPair : Difference → ℤ → Pair
+weighedPair p w = record { first = p .first; second = p .second; weight = w }
 
 -- the difference of a point's two corners, with no box
-abbrev pub baseOf : Piece → Piece → Point → Vec3
+abbrev pub baseOf : Piece → Piece → Difference → Vec3
 baseOf A B p = minus (cornerAt A (p .first)) (cornerAt B (p .second))
 
 abbrev pub nothingYet : Gathered
 nothingYet = record { count = 0; pairs = noPairs }
 
 -- one point more, unless it weighs nothing
-pub record Pushed (g : Gathered) (p : Point) (w : ℤ) (r : Gathered) : Type 0 where
+pub record Pushed (g : Gathered) (p : Difference) (w : ℤ) (r : Gathered) : Type 0 where
   pub none : w ≡ pos 0 → r ≡ g
   pub counted : (w ≡ pos 0 → ⊥) → r .count ≡ g .count + 1
-  pub stored : (w ≡ pos 0 → ⊥) → r .pairs ≡ set (g .pairs) (g .count) (pairOf p w)
+  pub stored : (w ≡ pos 0 → ⊥) → r .pairs ≡ set (g .pairs) (g .count) (weighedPair p w)
 
 -- what has been gathered of n points, with the sums of its weighted differences
 pub record Gather (A B : Piece) (n : ℕ) (x y z : ℤ) (g : Gathered) : Type 0 where

@@ -23,11 +23,11 @@ use Rattle.space.specs.declared.Pair.{Pair}
 use Rattle.space.specs.Vectors.{minus, det}
 use Rattle.space.specs.Ranges.{Upto, pointReach, weightReach}
 use Rattle.space.specs.Verdicts.{Piece, cornerAt, cornerCount, weighted, Fair}
-use Rattle.verdict_walk.specs.declared.support.Point.{Point}
+use Rattle.verdict_walk.specs.declared.support.Difference.{Difference}
 use Rattle.verdict_walk.specs.declared.path.Ended.{Ended}
 use Rattle.verdict_walk.specs.declared.gather.Gathered.{Gathered}
 use Rattle.verdict_walk.specs.NoPairs.{noPair, noPairs}
-use Rattle.verdict_walk.specs.Gather.{pairOf, baseOf, nothingYet, Pushed, Gather, Room, Weighed}
+use Rattle.verdict_walk.specs.Gather.{weighedPair, baseOf, nothingYet, Pushed, Gather, Room, Weighed}
 
 -- there is no pair among none
 pub none-at : (k : ℕ) → getD noPairs k noPair ≡ noPair
@@ -54,7 +54,8 @@ weighted-snoc along A B (q ∷ ps) p =
     ∙ sym (+ℤ-assoc (q .weight *ℤ along (minus (cornerAt A (q .first)) (cornerAt B (q .second)))) (weighted along A B ps) (p .weight *ℤ along (minus (cornerAt A (p .first)) (cornerAt B (p .second)))))
 
 -- ---- one more
-module _ {A B : Piece} {n : ℕ} {x y z w : ℤ} {g r : Gathered} {p : Point} (h : Gather A B n x y z g) (room : n < 4) (o : (p .first < cornerCount A) × (p .second < cornerCount B)) (nn : pos 0 ≤ℤ w) (most : w ≤ℤ pos weightMost) (u : Pushed g p w r) where
+module _ {A B : Piece} {n : ℕ} {x y z w : ℤ} {g r : Gathered} {p : Difference} (h : Gather A B n x y z g) (room : n < 4)
+    (o : (p .first < cornerCount A) × (p .second < cornerCount B)) (nn : pos 0 ≤ℤ w) (most : w ≤ℤ pos weightMost) (u : Pushed g p w r) where
   skipped : w ≡ pos 0 → Gather A B (n + 1) (x +ℤ w *ℤ baseOf A B p .x) (y +ℤ w *ℤ baseOf A B p .y) (z +ℤ w *ℤ baseOf A B p .z) r
   skipped e = subst (Gather A B (n + 1) (x +ℤ w *ℤ baseOf A B p .x) (y +ℤ w *ℤ baseOf A B p .y) (z +ℤ w *ℤ baseOf A B p .z)) (sym (u .none e)) (record {
     size = h .size;
@@ -71,50 +72,50 @@ module _ {A B : Piece} {n : ℕ} {x y z w : ℤ} {g r : Gathered} {p : Point} (h
 
   taken : (w ≡ pos 0 → ⊥) → Gather A B (n + 1) (x +ℤ w *ℤ baseOf A B p .x) (y +ℤ w *ℤ baseOf A B p .y) (z +ℤ w *ℤ baseOf A B p .z) r
   taken f = record {
-    size = ap length (u .stored f) ∙ length-set (g .pairs) (g .count) (pairOf p w) ∙ h .size;
+    size = ap length (u .stored f) ∙ length-set (g .pairs) (g .count) (weighedPair p w) ∙ h .size;
     few = let k = h .few in let e = u .counted f in omega arith;
     fair = λ q m. ⊎-elim (λ k. h .fair q k) (λ k. subst (Fair A B) (sym (List·Memᴰ·eq-of-singleton k)) new) (List·Memᴰ·append-cases (take (g .count) (g .pairs)) (subst (List·Memᴰ q) now-is m));
-    sum-x = ap (weighted (λ v. v .x) A B) now-is ∙ weighted-snoc (λ v. v .x) A B (take (g .count) (g .pairs)) (pairOf p w) ∙ ap (λ s. s +ℤ w *ℤ baseOf A B p .x) (h .sum-x);
-    sum-y = ap (weighted (λ v. v .y) A B) now-is ∙ weighted-snoc (λ v. v .y) A B (take (g .count) (g .pairs)) (pairOf p w) ∙ ap (λ s. s +ℤ w *ℤ baseOf A B p .y) (h .sum-y);
-    sum-z = ap (weighted (λ v. v .z) A B) now-is ∙ weighted-snoc (λ v. v .z) A B (take (g .count) (g .pairs)) (pairOf p w) ∙ ap (λ s. s +ℤ w *ℤ baseOf A B p .z) (h .sum-z);
+    sum-x = ap (weighted (λ v. v .x) A B) now-is ∙ weighted-snoc (λ v. v .x) A B (take (g .count) (g .pairs)) (weighedPair p w) ∙ ap (λ s. s +ℤ w *ℤ baseOf A B p .x) (h .sum-x);
+    sum-y = ap (weighted (λ v. v .y) A B) now-is ∙ weighted-snoc (λ v. v .y) A B (take (g .count) (g .pairs)) (weighedPair p w) ∙ ap (λ s. s +ℤ w *ℤ baseOf A B p .y) (h .sum-y);
+    sum-z = ap (weighted (λ v. v .z) A B) now-is ∙ weighted-snoc (λ v. v .z) A B (take (g .count) (g .pairs)) (weighedPair p w) ∙ ap (λ s. s +ℤ w *ℤ baseOf A B p .z) (h .sum-z);
     rest =
-        λ k l. ap (λ ps. getD ps k noPair) (u .stored f) ∙ getD-set-other (g .pairs) (g .count) k (pairOf p w) noPair (λ e. let n = u .counted f in omega arith) ∙ h .rest k
+        λ k l. ap (λ ps. getD ps k noPair) (u .stored f) ∙ getD-set-other (g .pairs) (g .count) k (weighedPair p w) noPair (λ e. let n = u .counted f in omega arith) ∙ h .rest k
         (let n = u .counted f in omega arith);
   }
     where
       count-is : r .count ≡ suc (g .count)
       count-is = u .counted f ∙ add-one (g .count)
 
-      now-is : take (r .count) (r .pairs) ≡ take (g .count) (g .pairs) ++ (pairOf p w ∷ [])
-      now-is = ap₂ take count-is (u .stored f) ∙ take-suc-set (g .pairs) (g .count) (pairOf p w) (let k = h .few in let e = h .size in omega arith)
+      now-is : take (r .count) (r .pairs) ≡ take (g .count) (g .pairs) ++ (weighedPair p w ∷ [])
+      now-is = ap₂ take count-is (u .stored f) ∙ take-suc-set (g .pairs) (g .count) (weighedPair p w) (let k = h .few in let e = h .size in omega arith)
 
       positive : pos 1 ≤ℤ w
       positive = ⊎-elim (λ k. absurd (clashℤ k nn)) (⊎-elim (λ k. absurd (f k)) (λ k. lt-succ k)) (trichotomy w (pos 0))
 
-      new : Fair A B (pairOf p w)
+      new : Fair A B (weighedPair p w)
       new = record { of-first = o .0; of-second = o .1; least = positive; most = most }
 
   pub gather-more : Gather A B (n + 1) (x +ℤ w *ℤ baseOf A B p .x) (y +ℤ w *ℤ baseOf A B p .y) (z +ℤ w *ℤ baseOf A B p .z) r
   gather-more = ⊎-elim (λ k. absurd (clashℤ k nn)) (⊎-elim skipped (λ k. taken (λ e. gt-other k e))) (trichotomy w (pos 0))
 
 -- ---- what the code makes
-pub push-none : {g : Gathered} {p : Point} {w : ℤ} → w ≡ pos 0 → Pushed g p w g
+pub push-none : {g : Gathered} {p : Difference} {w : ℤ} → w ≡ pos 0 → Pushed g p w g
 push-none e = record { none = λ _. refl; counted = λ f. absurd (f e); stored = λ f. absurd (f e) }
 
-pub push-some : {g : Gathered} {p : Point} {w v : ℤ} → (w ≡ pos 0 → ⊥) → v ≡ w
+pub push-some : {g : Gathered} {p : Difference} {w v : ℤ} → (w ≡ pos 0 → ⊥) → v ≡ w
     → Pushed g p w (record { count = g .count + 1; pairs = set (g .pairs) (g .count) (record { first = p .first; second = p .second; weight = v }) })
-push-some {g} {p} f e = record { none = λ k. absurd (f k); counted = λ _. refl; stored = λ _. ap (λ z. set (g .pairs) (g .count) (pairOf p z)) e }
+push-some {g} {p} f e = record { none = λ k. absurd (f k); counted = λ _. refl; stored = λ _. ap (λ z. set (g .pairs) (g .count) (weighedPair p z)) e }
 
-pub room-more : {g r : Gathered} {p : Point} {w : ℤ} {n : ℕ} → Room n g → Pushed g p w r → Room (n + 1) r
+pub room-more : {g r : Gathered} {p : Difference} {w : ℤ} {n : ℕ} → Room n g → Pushed g p w r → Room (n + 1) r
 room-more {g} {r} {p} {w} {n} h u =
     ⊎-elim (λ k. some (λ e. lt-other k e)) (⊎-elim (λ k. subst (Room (n + 1)) (sym (u .none k)) (record { few = let l = h .few in omega arith; size = h .size })) (λ k. some (λ e. gt-other k e)))
     (trichotomy w (pos 0))
   where
     some : (w ≡ pos 0 → ⊥) → Room (n + 1) r
-    some f = record { few = let l = h .few in let e = u .counted f in omega arith; size = ap length (u .stored f) ∙ length-set (g .pairs) (g .count) (pairOf p w) ∙ h .size }
+    some f = record { few = let l = h .few in let e = u .counted f in omega arith; size = ap length (u .stored f) ∙ length-set (g .pairs) (g .count) (weighedPair p w) ∙ h .size }
 
 -- nothing that was gathered is lost
-pub count-grows : {g r : Gathered} {p : Point} {w : ℤ} → Pushed g p w r → g .count ≤ r .count
+pub count-grows : {g r : Gathered} {p : Difference} {w : ℤ} → Pushed g p w r → g .count ≤ r .count
 count-grows {g} {r} {p} {w} u =
     ⊎-elim (λ k. some (λ e. lt-other k e)) (⊎-elim (λ k. let e : r .count ≡ g .count = ap (λ h. h .count) (u .none k) in omega arith) (λ k. some (λ e. gt-other k e))) (trichotomy w (pos 0))
   where
@@ -127,11 +128,11 @@ room-none {n} e = subst (Room n) (sym e) (record { few = omega arith; size = ref
 pub room-le : {m n : ℕ} {g : Gathered} → m ≤ n → Room m g → Room n g
 room-le h r = record { few = let k = r .few in omega arith; size = r .size }
 
-pub pushed-as : {g h r : Gathered} {p : Point} {w v : ℤ} → g ≡ h → w ≡ v → Pushed g p w r → Pushed h p v r
+pub pushed-as : {g h r : Gathered} {p : Difference} {w v : ℤ} → g ≡ h → w ≡ v → Pushed g p w r → Pushed h p v r
 pushed-as {g} {h} {r} {p} {w} {v} e k u = subst (λ x. Pushed x p v r) e (subst (λ x. Pushed g p x r) k u)
 
 -- ---- what is gathered is one
-pushed-once : {g q r : Gathered} {p : Point} {w : ℤ} → Pushed g p w q → Pushed g p w r → q ≡ r
+pushed-once : {g q r : Gathered} {p : Difference} {w : ℤ} → Pushed g p w q → Pushed g p w r → q ≡ r
 pushed-once {g} {q} {r} {p} {w} u v = ⊎-elim (λ k. some (λ e. lt-other k e)) (⊎-elim (λ k. u .none k ∙ sym (v .none k)) (λ k. some (λ e. gt-other k e))) (trichotomy w (pos 0))
   where
     some : (w ≡ pos 0 → ⊥) → q ≡ r

@@ -18,11 +18,11 @@ use Rattle.space.specs.Ranges.{Upto, pointReach, normalReach, upto-le}
 use Rattle.space.specs.Verdicts.{Piece, cornerCount, cornerAt, Below, NotAbove}
 use Rattle.space.specs.Lists.{Placed}
 use Rattle.verdict_portal.specs.Flat.{had, vec, ones, Sign, Signs}
-use Rattle.verdict_portal.specs.Turn.{dot-within}
-use Rattle.verdict_walk.specs.declared.support.Point.{Point}
+use Rattle.verdict_portal.specs.Rounds.{dot-within}
+use Rattle.verdict_walk.specs.declared.support.Difference.{Difference}
 use Rattle.verdict_walk.specs.Points.{Spread, Tagged, Box, Farthest, SignOf, SignsOf, Signed, Boxed, Supports}
 
-pub spread-of : {A B : Piece} {g : Vec3} {p : Point} → Tagged A B g p → Spread A B g (p .at)
+pub spread-of : {A B : Piece} {g : Vec3} {p : Difference} → Tagged A B g p → Spread A B g (p .at)
 spread-of {p} t = record { first = p .first; second = p .second; of-first = t .of-first; of-second = t .of-second; signs = t .signs; are = t .are; is = t .is }
 
 -- ---- sizes
@@ -96,7 +96,7 @@ boxed-by sx sy sz = record {
   most = record { ux = sx .most; uy = sy .most; uz = sz .most };
 }
 
-pub supports : {A B : Piece} {g n m s : Vec3} {p : Point} → Box g → Farthest n A (p .first) → m ≡ minus origin n → Farthest m B (p .second) → SignsOf n s
+pub supports : {A B : Piece} {g n m s : Vec3} {p : Difference} → Box g → Farthest n A (p .first) → m ≡ minus origin n → Farthest m B (p .second) → SignsOf n s
     → p .at ≡ plus (minus (cornerAt A (p .first)) (cornerAt B (p .second))) (had s g) → Supports A B g n p
 supports {A} {B} {g} {n} {m} {s} {p} bx fa em fb ss e = record {
   tagged = record {
@@ -183,7 +183,7 @@ some-corner p = let a = p .fits .least in let e = p .fits .is in omega arith
 
 -- against n is as far as along it
 pub opposite-upto : {n m : Vec3} → Upto normalReach n → m ≡ minus origin n → Upto normalReach m
-opposite-upto {n} u e = subst (Upto normalReach) (sym e) (turned n u)
+opposite-upto {n} u e = subst (Upto normalReach) (sym e) (opposed n u)
   where
-    turned : (n : Vec3) → Upto normalReach n → Upto normalReach (minus origin n)
-    turned n u = record { ux = within (search known depth 9) tt; uy = within (search known depth 9) tt; uz = within (search known depth 9) tt }
+    opposed : (n : Vec3) → Upto normalReach n → Upto normalReach (minus origin n)
+    opposed n u = record { ux = within (search known depth 9) tt; uy = within (search known depth 9) tt; uz = within (search known depth 9) tt }

@@ -11,7 +11,7 @@ use Rattle.space.specs.Ranges.{Upto}
 use Rattle.space.specs.Verdicts.{Piece, cornerCount, cornerAt}
 use Rattle.verdict_portal.specs.Flat.{had, Signs}
 use Rattle.verdict_portal.specs.Exits.{Support}
-use Rattle.verdict_walk.specs.declared.support.Point.{Point}
+use Rattle.verdict_walk.specs.declared.support.Difference.{Difference}
 
 -- y is a − b + σ∘g
 pub record Spread (A B : Piece) (g y : Vec3) : Type 0 where
@@ -24,7 +24,7 @@ pub record Spread (A B : Piece) (g y : Vec3) : Type 0 where
   pub is : y ≡ plus (minus (cornerAt A first) (cornerAt B second)) (had signs g)
 
 -- the same of a point that carries its corners' numbers
-pub record Tagged (A B : Piece) (g : Vec3) (p : Point) : Type 0 where
+pub record Tagged (A B : Piece) (g : Vec3) (p : Difference) : Type 0 where
   pub of-first : p .first < cornerCount A
   pub of-second : p .second < cornerCount B
   pub signs : Vec3
@@ -67,6 +67,6 @@ pub record Boxed (n g r : Vec3) : Type 0 where
   pub most : Upto 4096 r
 
 -- ---- a support: the farthest a along n, the farthest b against it, the signs of n
-pub record Supports (A B : Piece) (g n : Vec3) (p : Point) : Type 0 where
+pub record Supports (A B : Piece) (g n : Vec3) (p : Difference) : Type 0 where
   pub tagged : Tagged A B g p
   pub support : Support (Spread A B g) n (p .at)

@@ -7,7 +7,7 @@ ghost use Rattle.verdict_walk.specs.NoPairs.{noPair, noPairs};
 ghost use Rattle.verdict_walk.specs.Ends.{Near};
 ghost use Rattle.verdict_walk.specs.Gather.{nothingYet, Pushed, Room, Weighed};
 use crate::path::Ended;
-use crate::support::Point;
+use crate::support::Difference;
 use space::Pair;
 use space::det;
 
@@ -44,7 +44,7 @@ fn nothing_yet() -> Gathered
 }
 
 // One point more with its weight, unless it weighs nothing.
-fn push(g: Gathered, p: Point, w: i64) -> Gathered
+fn push(g: Gathered, p: Difference, w: i64) -> Gathered
     requires { ⌜ Room 3 g ⌝ }
     requires { ⌜ Within weightReach w ⌝ }
     ensures { λ r. ⌜ Pushed g p w r ⌝ }

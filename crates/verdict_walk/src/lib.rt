@@ -10,5 +10,5 @@ pub use gather::no_pairs;
 pub use path::Ended;
 pub use path::Portal;
 pub use path::walk;
-pub use support::Point;
+pub use support::Difference;
 pub use support::corner;

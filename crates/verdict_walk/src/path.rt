@@ -7,7 +7,7 @@ ghost use Rattle.ints.specs.Sign.{lex};
 ghost use Rattle.space.specs.Vectors.{dot, normal};
 ghost use Rattle.space.specs.Ranges.{Upto, pointReach, shiftReach, normalReach};
 ghost use Rattle.verdict_walk.specs.Ends.{placesOf, Corners, Replaced, Ground, Begun, Walked};
-use crate::support::Point;
+use crate::support::Difference;
 use crate::support::support;
 use space::Vec3;
 use space::cross;
@@ -15,13 +15,13 @@ use space::dot;
 use space::first_of;
 use space::plus;
 use verdict_portal::Three;
-use verdict_portal::step;
+use verdict_portal::round;
 
 // A portal: three points of the difference.
 pub struct Portal {
-    pub a: Point,
-    pub b: Point,
-    pub c: Point,
+    pub a: Difference,
+    pub b: Difference,
+    pub c: Difference,
 }
 
 // Where a walk ended: at a portal with its normal, by the last point that was looked at.
@@ -29,7 +29,7 @@ pub struct Ended {
     pub met: bool,
     pub portal: Portal,
     pub normal: Vec3,
-    pub last: Point,
+    pub last: Difference,
 }
 
 fn places_of(t: Portal) -> Three
@@ -67,7 +67,7 @@ fn behind(q: Vec3, n: Vec3, p: Vec3) -> bool
 }
 
 // The portal with p for its corner s: 1, 2 or 3.
-fn replaced(t: Portal, s: u8, p: Point) -> Portal
+fn replaced(t: Portal, s: u8, p: Difference) -> Portal
     ensures { λ r. ⌜ Replaced t s p r ⌝ }
 {
     let a = t.a;
@@ -102,7 +102,7 @@ pub fn walk(q: Vec3, f: Three, from: Portal, g: Vec3, first: &[i32], second: &[i
                 last: p,
             };
         }
-        let s = step(q, f, v, y);
+        let s = round(q, f, v, y);
         if s == 0 {
             return Ended {
                 met: true,

@@ -15,7 +15,7 @@ use space::opposite;
 use space::plus;
 
 // A point of the difference of two pieces, with the numbers of the two corners that it comes from.
-pub struct Point {
+pub struct Difference {
     pub at: Vec3,
     pub first: usize,
     pub second: usize,
@@ -91,7 +91,7 @@ fn boxed(n: Vec3, g: Vec3) -> Vec3
 }
 
 // The point of the difference that is farthest along n: the farthest corner of the first piece, the farthest of the second against n, the farthest of the box.
-pub fn support(n: Vec3, g: Vec3, first: &[i32], second: &[i32]) -> Point
+pub fn support(n: Vec3, g: Vec3, first: &[i32], second: &[i32]) -> Difference
     requires { ⌜ Upto normalReach n × Box g ⌝ }
     requires { ⌜ Placed (now first) × Placed (now second) ⌝ }
     ensures { λ r. ⌜ Supports (now (first .entry)) (now (second .entry)) g n r ⌝ }
@@ -102,7 +102,7 @@ pub fn support(n: Vec3, g: Vec3, first: &[i32], second: &[i32]) -> Point
     let a = corner(first, i);
     let b = corner(second, j);
     let at = plus(minus(a, b), boxed(n, g));
-    Point {
+    Difference {
         at: at,
         first: i,
         second: j,

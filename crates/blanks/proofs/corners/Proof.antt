@@ -5,14 +5,14 @@ use mathlib.Core.List.{List}
 use lib.IntN.{ℤ}
 use Rattle.blanks.specs.declared.Blank.{Blank}
 use Rattle.blanks.specs.declared.Written.{Written}
-use Rattle.blanks.specs.Blanks.{sizes, needed, cornersOf, WrittenAs}
+use Rattle.blanks.specs.Blanks.{sizes, needed, blankCorners, WrittenAs}
 use Rattle.blanks.proofs.corners.Statement.{statement}
 use Rattle.blanks.proofs.corners.Tie as tie
 
 -- an answer for what the match found the blank to be is one for the blank
-as-blank : {b : Blank} {before after : List ℤ} {r : Written} (k : Blank) → b ≡ k → WrittenAs (sizes k) (needed k) (cornersOf k) before after r
-    → WrittenAs (sizes b) (needed b) (cornersOf b) before after r
-as-blank {before} {after} {r} k e h = subst (λ (b : Blank). WrittenAs (sizes b) (needed b) (cornersOf b) before after r) (sym e) h
+as-blank : {b : Blank} {before after : List ℤ} {r : Written} (k : Blank) → b ≡ k → WrittenAs (sizes k) (needed k) (blankCorners k) before after r
+    → WrittenAs (sizes b) (needed b) (blankCorners b) before after r
+as-blank {before} {after} {r} k e h = subst (λ (b : Blank). WrittenAs (sizes b) (needed b) (blankCorners b) before after r) (sym e) h
 
 enum-known-blank : tie.Need-enum-known-blank
 enum-known-blank c = search needs

@@ -52,12 +52,17 @@ same-length c = search needs
 
 returns : tie.Need-returns
 returns c =
-    let s = c .before .before .before .before .before .before .before .before .before .before .before .before .before .before .before .before .before .before .before .before .before .before .before .before .before .before .before .before .before in
-    let put = put-be (put-is (c .before .before .before .before .before .before .before .before .before .before .before .before .before .before .before .before .before .before .before .before))
-    (c .before .before .before .before .before .before .before .before .before .before .before .before .before .before .before .put-place .ensures) in
-    moved-by (s .pre) put
-    (record { on-x = c .before .before .before .before .before .before .before .before .before .before .before .before .before .before .before .before .before .before .before .before .before .before .before .before .before .before .keys-of .ensures; on-y = c .before .before .before .before .before .before .before .before .before .before .before .before .before .before .before .before .before .before .before .before .before .before .before .before .keys-of2 .ensures; on-z = c .before .before .before .before .before .before .before .before .before .before .before .before .before .before .before .before .before .before .before .before .before .before .keys-of3 .ensures })
-    (record { on-x = c .before .before .before .before .before .before .before .before .before .before .before .keys-of4 .ensures; on-y = c .before .before .before .before .before .before .before .before .before .keys-of5 .ensures; on-z = c .before .before .before .before .before .before .before .keys-of6 .ensures })
+    let z = c .before .before .before .before .before .before .before in
+    let y = z .before .before in
+    let x = y .before .before in
+    let put = x .before .before .before .before in
+    let q = put .before .before .before .before .before in
+    let old-z = q .before .before in
+    let old-y = old-z .before .before in
+    let old-x = old-y .before .before in
+    moved-by (old-x .before .before .before .pre) (put-be (put-is q) (put .put-place .ensures))
+    (record { on-x = old-x .keys-of .ensures; on-y = old-y .keys-of2 .ensures; on-z = old-z .keys-of3 .ensures })
+    (record { on-x = x .keys-of4 .ensures; on-y = y .keys-of5 .ensures; on-z = z .keys-of6 .ensures })
     (c .count-marks .ensures)
 
 pub move-to-spec : {M : Type 1} → statement M

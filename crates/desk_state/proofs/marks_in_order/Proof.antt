@@ -18,7 +18,10 @@ in-place-marks-requires c κs = search needs
 
 returns : tie.Need-returns
 returns c =
-    marks-decided (record { on-x = c .before .before .before .before .before .before .keys-of .ensures; on-y = c .before .before .before .before .before .keys-of2 .ensures; on-z = c .before .before .before .before .keys-of3 .ensures }) (c .in-place-marks .ensures)
+    let z = c .before .before .before .before in
+    let y = z .before in
+    let x = y .before in
+    marks-decided (record { on-x = x .keys-of .ensures; on-y = y .keys-of2 .ensures; on-z = z .keys-of3 .ensures }) (c .in-place-marks .ensures)
 
 pub marks-in-order-spec : {M : Type 1} → statement M
 marks-in-order-spec =

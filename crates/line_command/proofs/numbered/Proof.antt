@@ -4,7 +4,7 @@ use Prim.Native.Nat.{ℕ}
 use mathlib.Core.Path.{_≡_, refl, sym, subst}
 use native.Mathlib.Decide.{decLt, ℕ-discrete}
 use native.Mathlib.Omega.{arith}
-use Rattle.text_words.specs.Words.{wordsOf}
+use Rattle.text_cut.specs.Cuts.{partsOf}
 use Rattle.line.specs.Behind.{behind, Finds}
 use Rattle.line.specs.Named.{NameOf, namesOf, valueOf}
 use Rattle.line.specs.NamedLaws.{finds-named, value-past, none-below}
@@ -15,7 +15,7 @@ use Rattle.line_command.proofs.numbered.Tie as tie
 
 -- the names stand in the text as the table has them
 named : (c : tie.After-name-of) → let a = c .before .before .before .args in NameOf (a .word .now) (namesOf (deskWords (a .numbers .now))) (c .name-of .result)
-unfolding behind wordsOf decLt ℕ-discrete
+unfolding behind partsOf decLt ℕ-discrete
 named c = c .name-of .ensures
 
 -- a word of number k says what has that number

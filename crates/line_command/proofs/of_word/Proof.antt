@@ -4,10 +4,10 @@ use Prim.Native.Nat.{ℕ, _+_, _-_, _≤_, _<_}
 use mathlib.Core.Path.{_≡_, refl, subst}
 use native.Mathlib.Decide.{decLt, ℕ-discrete}
 use native.Mathlib.Omega.{arith}
-use Rattle.text_words.specs.Words.{wordsOf}
+use Rattle.text_cut.specs.Cuts.{partsOf}
 use mathlib.Core.Logic.{inl, inr}
 use mathlib.Core.List.{[], _∷_, _++_}
-use Rattle.line.specs.Behind.{behind, Finds, Missing}
+use Rattle.line.specs.Behind.{behind, Finds, NotIn}
 use Rattle.line.specs.Named.{NameOf, namesOf, valueOf}
 use Rattle.line.specs.NamedLaws.{named-in, named-past, name-zero, name-not, none-below}
 use Rattle.line_command.specs.Names.{spoilWord}
@@ -18,7 +18,7 @@ use Rattle.line_command.proofs.of_word.Tie as tie
 
 -- the names stand in the text as the table has them, and `spoil` behind them
 named : (c : tie.After-name-of) → NameOf (c .before .before .before .before .args .word .now) (namesOf otherWords ++ spoilWord ∷ []) (c .name-of .result)
-unfolding behind wordsOf decLt ℕ-discrete
+unfolding behind partsOf decLt ℕ-discrete
 named c = c .name-of .ensures
 
 other : (c : tie.After-name-of) (k : ℕ) {l : Line} → c .name-of .result ≡ k → k < 8 → l ≡ valueOf otherWords unknown k
@@ -27,10 +27,10 @@ other c k e h f =
     let w = c .before .before .before .before .args .word .now in
     rw f (named-in w otherWords (spoilWord ∷ []) (λ _. ⊥) unknown k (subst (NameOf w (namesOf otherWords ++ spoilWord ∷ [])) e (named c)) h)
 
-past : (c : tie.After-name-of) (m : ℕ) → c .name-of .result ≡ 8 + m → let w = c .before .before .before .before .args .word .now in Missing w otherWords × NameOf w (spoilWord ∷ []) m
+past : (c : tie.After-name-of) (m : ℕ) → c .name-of .result ≡ 8 + m → let w = c .before .before .before .before .args .word .now in NotIn w otherWords × NameOf w (spoilWord ∷ []) m
 past c m e = named-past (c .before .before .before .before .args .word .now) otherWords (spoilWord ∷ []) (c .name-of .result) m e (named c)
 
-beyond : (c : tie.After-name-of) → 9 ≤ c .name-of .result → let w = c .before .before .before .before .args .word .now in Missing w otherWords × (w ≡ spoilWord → ⊥)
+beyond : (c : tie.After-name-of) → 9 ≤ c .name-of .result → let w = c .before .before .before .before .args .word .now in NotIn w otherWords × (w ≡ spoilWord → ⊥)
 beyond c h =
     let k = c .name-of .result - 8 in
     let e : c .name-of .result ≡ 8 + k = omega (arith, h) in

@@ -5,8 +5,8 @@ use mathlib.Core.Bool.{false≢true}
 use Prim.Native.Nat.{ℕ, _-_}
 use native.Mathlib.Omega.{arith}
 use lib.ListN.{length, take}
-use Rattle.text_words.specs.Words.{firstWord}
-use Rattle.text_words.specs.WordLaws.{first-take}
+use Rattle.text_words.specs.Words.{spaceByte, firstWord}
+use Rattle.text_cut.specs.CutLaws.{first-take}
 use Rattle.line_command.specs.LineLaws.{of-line}
 use Rattle.line_command.proofs.read.Statement.{statement}
 use Rattle.line_command.proofs.read.Tie as tie
@@ -47,7 +47,7 @@ returns-2 c =
     let o = c .before in
     record {
       passed = λ q. absurd (false≢true (sym (i .if1 .left) ∙ p .is-passed-over .ensures .1 q));
-      read = λ n. of-line s room (o .of-word .last .1 .1 .1 .0) (o .of-word .result) (ap (λ (k : ℕ). take k s) f ∙ first-take s) e (o .of-word .ensures);
+      read = λ n. of-line s room (o .of-word .last .1 .1 .1 .0) (o .of-word .result) (ap (λ (k : ℕ). take k s) f ∙ first-take spaceByte s) e (o .of-word .ensures);
     }
 
 pub read-spec : {M : Type 1} → statement M

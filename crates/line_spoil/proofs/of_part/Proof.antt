@@ -3,7 +3,7 @@ use Prim.Native.Nat.{ℕ}
 use mathlib.Core.Path.{_≡_, refl, sym, ap, subst}
 use native.Mathlib.Decide.{decLt, ℕ-discrete}
 use mir.Facts.{toZ-ofZ}
-use Rattle.text_words.specs.Words.{wordsOf}
+use Rattle.text_cut.specs.Cuts.{partsOf}
 use Rattle.line.specs.Behind.{behind, Finds}
 use Rattle.line.specs.Named.{NameOf, namesOf, valueOf}
 use Rattle.line.specs.NamedLaws.{finds-named, value-past, none-below}
@@ -22,7 +22,7 @@ name-of-requires c κs = search needs
 
 -- the names stand in the text as the table has them
 named : (c : tie.After-name-of) → let a = c .before .before .before .args in NameOf (a .word .now) (namesOf (parts (a .i) (a .v))) (c .name-of .result)
-unfolding behind wordsOf decLt ℕ-discrete
+unfolding behind partsOf decLt ℕ-discrete
 named c = c .name-of .ensures
 
 -- a word of number k has the cell of that number

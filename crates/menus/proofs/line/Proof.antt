@@ -3,7 +3,7 @@ use Prim.Native.Nat.{ℕ, _+_}
 use mathlib.Core.Path.{_≡_, ap}
 use borrow.Author.Needs.{needs}
 use native.Mathlib.Omega.{arith}
-use Rattle.menus.specs.ScanLaws.{start-le, part-is, part-in}
+use Rattle.menus.specs.ScanLaws.{start-in, part-is}
 use Rattle.menus.proofs.line.Statement.{statement}
 use Rattle.menus.proofs.line.Tie as tie
 
@@ -14,32 +14,34 @@ shifted p a b h = let e : a + p .1 ≡ p .1 + b = omega arith in ap (λ (n : ℕ
 line-start-requires : tie.Need-line-start-requires
 line-start-requires c κs = search needs
 
-line-end-requires : tie.Need-line-end-requires
-line-end-requires c κs = omega (arith, c .line-start .ensures, start-le (c .before .before .args .text .now) (c .before .before .args .k))
+part-end-requires : tie.Need-part-end-requires
+part-end-requires c κs = search needs
 
 sub-result : tie.Need-sub-result
-sub-result c = search needs
+sub-result c =
+    let a = c .before .before .before .args in
+    omega (arith, c .part-end .ensures .0, start-in (a .text .now) (a .k) _ _ (c .before .line-start .ensures) (c .part-end .ensures .0))
 
 part-result-start : tie.Need-part-result-start
-part-result-start c = search needs
+part-result-start c =
+    let a = c .before .before .before .args in
+    omega (arith, c .part-end .ensures .0, start-in (a .text .now) (a .k) _ _ (c .before .line-start .ensures) (c .part-end .ensures .0))
 
 part-result-end : tie.Need-part-result-end
-part-result-end c =
-    let a = c .before .before .before .args in
-    part-in (a .text .now) (a .k) _ _ (c .before .line-start .ensures) (c .line-end .ensures)
+part-result-end c = c .part-end .ensures .1
 
 returns : tie.Need-returns
 returns c =
     let a = c .before .before .before .before .args in
     let s = c .before .before .line-start .ensures in
-    (part-is (a .text .now) (a .k) _ _ s (c .before .line-end .ensures), shifted (a .text .ptr) _ _ s)
+    (part-is (a .text .now) (a .k) _ _ s (c .before .part-end .ensures .0), shifted (a .text .ptr) _ _ s)
 
 pub line-spec : {M : Type 1} → statement M
 line-spec =
     tie.close
     (tie.spec
     line-start-requires
-    line-end-requires
+    part-end-requires
     sub-result
     part-result-start
     part-result-end

@@ -1,20 +1,20 @@
--- `mudwicket::run` stays in range and ends. The invariant: what is held of the input lies within its buffer. The measure is the turns that are left.
+-- `mudwicket::run` stays in range and ends. The invariant: what is held of the input lies within its buffer. The measure is the rounds that are left.
 use Prim.Native.Nat.{ℕ, _≤_}
 use mathlib.Core.Path.{_≡_, refl, sym, _∙_, subst}
 use native.Mathlib.Omega.{arith}
 use lib.ListN.{length}
-use Rattle.mudwicket.specs.Held.{Held}
+use Rattle.mudwicket.specs.InBuffer.{InBuffer}
 use Rattle.mudwicket.specs.declared.input.State.{State}
 use Rattle.mudwicket.proofs.run.Statement.{statement}
 use Rattle.mudwicket.proofs.run.Tie as tie
 
 -- what lies within a buffer lies within a longer one
-more : {s : State} {m n : ℕ} → Held s m → m ≤ n → Held s n
+more : {s : State} {m n : ℕ} → InBuffer s m → m ≤ n → InBuffer s n
 more h k = record { seen = h .seen; waits = h .waits; within = omega arith; line = h .line; found = omega arith }
 
 abbrev Inv-loop : tie.InvT-loop
-Inv-loop input₀ out₀ texts₀ numbers₀ lent₀ shapes₀ places₀ rows₀ book₀ marks₀ s₀ at₀ turns₀ input out texts numbers lent shapes places rows book marks s at turns =
-    Held s (length input)
+Inv-loop input₀ out₀ texts₀ numbers₀ lent₀ shapes₀ places₀ rows₀ book₀ marks₀ s₀ at₀ rounds₀ input out texts numbers lent shapes places rows book marks s at rounds =
+    InBuffer s (length input)
     × (length input ≡ length input₀)
     × (length out ≡ length out₀)
     × (length texts ≡ length texts₀)
@@ -22,14 +22,14 @@ Inv-loop input₀ out₀ texts₀ numbers₀ lent₀ shapes₀ places₀ rows₀
     × (length marks ≡ length marks₀)
 
 abbrev μ-loop : tie.MeasureT-loop
-μ-loop input₀ out₀ texts₀ numbers₀ lent₀ shapes₀ places₀ rows₀ book₀ marks₀ s₀ at₀ turns₀ input out texts numbers lent shapes places rows book marks s at turns = turns
+μ-loop input₀ out₀ texts₀ numbers₀ lent₀ shapes₀ places₀ rows₀ book₀ marks₀ s₀ at₀ rounds₀ input out texts numbers lent shapes places rows book marks s at rounds = rounds
 
-held-after : (c : tie.After-advance Inv-loop μ-loop) → Held (c .advance .result) (length (c .advance .last .0))
-held-after c = subst (Held (c .advance .result)) (sym (c .advance .kept .0)) (c .advance .ensures)
+held-after : (c : tie.After-advance Inv-loop μ-loop) → InBuffer (c .advance .result) (length (c .advance .last .0))
+held-after c = subst (InBuffer (c .advance .result)) (sym (c .advance .kept .0)) (c .advance .ensures)
 
--- the turn of which the answer was put
-abbrev turn : tie.After-slice-known8 Inv-loop μ-loop → tie.After-advance Inv-loop μ-loop
-turn c = let r = c .before .before .before .before .before .before .before in r .before .before .before .before .before .before .before .before .before .before .before .before .before
+-- the round of which the answer was put
+abbrev round : tie.After-slice-known8 Inv-loop μ-loop → tie.After-advance Inv-loop μ-loop
+round c = let r = c .before .before .before .before .before .before .before in r .before .before .before .before .before .before .before .before .before .before .before .before .before
 
 start-requires : tie.Need-start-requires Inv-loop μ-loop
 start-requires c κs = tt
@@ -37,21 +37,24 @@ start-requires c κs = tt
 loop-holds : tie.Need-loop-holds Inv-loop μ-loop
 loop-holds c = (more (c .start .ensures) (omega arith), refl, refl, refl, refl, refl)
 
+is-last-requires : tie.Need-is-last-requires Inv-loop μ-loop
+is-last-requires c κs = tt
+
 advance-requires : tie.Need-advance-requires Inv-loop μ-loop
 advance-requires c κs = c .before .before .before .before .loop .inv .0
 
 respond-requires : tie.Need-respond-requires Inv-loop μ-loop
 respond-requires c κs = held-after (c .before .before .before .before .before .before .before .before .before .before .before .before)
 
-sub-turns : tie.Need-sub-turns Inv-loop μ-loop
-sub-turns c = let a = turn c in a .before .before .before .before .loop-test .taken
+sub-rounds : tie.Need-sub-rounds Inv-loop μ-loop
+sub-rounds c = let a = round c in a .before .before .before .before .loop-test .taken
 
 loop-less : tie.Need-loop-less Inv-loop μ-loop
-loop-less c = let a = turn c in omega (arith, a .before .before .before .before .loop-test .taken)
+loop-less c = let a = round c in omega (arith, a .before .before .before .before .loop-test .taken)
 
 loop-again : tie.Need-loop-again Inv-loop μ-loop
 loop-again c =
-    let a = turn c in
+    let a = round c in
     let l = a .before .before .before .before .before in
     let r = c .before .before .before .before .before .before .before in (
       held-after a,
@@ -91,9 +94,10 @@ run-spec =
     μ-loop
     start-requires
     loop-holds
+    is-last-requires
     advance-requires
     respond-requires
-    sub-turns
+    sub-rounds
     loop-less
     loop-again
     flush-requires

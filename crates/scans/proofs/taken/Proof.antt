@@ -11,7 +11,7 @@ use mir.Val.{SFits, toZ}
 use mir.Syntax.{w32}
 use Rattle.limits.specs.Limits
 use Rattle.scans.specs.declared.Scan.{Scan}
-use Rattle.scans.specs.Floats.{signed}
+use Rattle.scans.specs.Floats.{withSign}
 use Rattle.scans.proofs.taken.Statement.{statement}
 use Rattle.scans.proofs.taken.Tie as tie
 
@@ -40,13 +40,13 @@ returns-2 : tie.Need-returns-2
 returns-2 c =
     let n = c .before .before .args .size in
     let h = c .before .if1 .left in
-    inr (h, ap done (rw (as-signed n h, +ℤ-idl (negℤ (pos n))) (toZ-ofZ w32 (negℤ (pos n)) (minus-fits n h)) ∙ sym (ap (λ (b : Bool). signed b n) (c .if2 .taken))))
+    inr (h, ap done (rw (as-signed n h, +ℤ-idl (negℤ (pos n))) (toZ-ofZ w32 (negℤ (pos n)) (minus-fits n h)) ∙ sym (ap (λ (b : Bool). withSign b n) (c .if2 .taken))))
 
 returns-3 : tie.Need-returns-3
 returns-3 c =
     let n = c .before .before .args .size in
     let h = c .before .if1 .left in
-    inr (h, ap done (as-signed n h ∙ sym (ap (λ (b : Bool). signed b n) (c .if2 .left))))
+    inr (h, ap done (as-signed n h ∙ sym (ap (λ (b : Bool). withSign b n) (c .if2 .left))))
 
 pub taken-spec : {M : Type 1} → statement M
 taken-spec = tie.close (tie.spec returns cast-steps sub-t5 returns-2 returns-3)

@@ -2,7 +2,7 @@
 use Prim.Native.Nat.{ℕ, _<_, _*_, _/_}
 use mathlib.Core.Path.{_≡_, sym, ap, _∙_, subst}
 use mathlib.Core.List.{List, [], _∷_}
-use mathlib.Core.Logic.{inl, inr}
+use mathlib.Core.Logic.{inl, inr, ⊎-elim}
 use mathlib.Core.Bool.{false≢true}
 use native.Mathlib.Omega.{arith}
 use lib.ListN.{length, getD, drop-of-length-le}
@@ -11,6 +11,7 @@ use Rattle.text_hex.specs.HexLaws.{bytes-half}
 use Rattle.text_hex.specs.declared.Text.{Text}
 use Rattle.text_hex.proofs.Places.{at-place}
 use borrow.Author.Needs.{needs}
+use borrow.Author.Tests.{eqb-true, eqb-false, not-true, not-false}
 use Rattle.text_hex.proofs.measure.Statement.{statement}
 use Rattle.text_hex.proofs.measure.Tie as tie
 
@@ -32,30 +33,29 @@ dash-requires c κs = search needs
 returns : tie.Need-returns
 returns c = let d = c .before .before in alone (d .before .before .args .word .now) (c .dash .result) (d .if1 .taken) (c .dash .ensures)
 
-returns-2 : tie.Need-returns-2
-returns-2 c =
-    let n = c .before .if1 .left in
-    no-text (c .before .before .before .args .word .now) n λ h l p. n (omega (arith, c .if2 .taken))
-
 mul-if3 : tie.Need-mul-if3
 mul-if3 c = search needs
 
-returns-3 : tie.Need-returns-3
-returns-3 c = no-text (c .before .before .before .before .args .word .now) (c .before .before .if1 .left) λ h l p. c .if3 .taken (omega arith)
+returns-2 : tie.Need-returns-2
+returns-2 c =
+    let word = c .before .before .before .args .word .now in
+    let n = c .before .if1 .left in
+    no-text word n
+    λ h l p. ⊎-elim (λ w. n (omega (arith, w .taken))) (λ w. eqb-false (length word / 2 * 2) (length word) (not-true _ (w .1 .taken)) (omega arith)) (c .if2 .came)
 
 all-hex-requires : tie.Need-all-hex-requires
 all-hex-requires c κs = search needs
 
-returns-4 : tie.Need-returns-4
-returns-4 c =
+returns-3 : tie.Need-returns-3
+returns-3 c =
     let a = c .before in
     let s = a .before .before .before .before .before .args .word .now in
-    let e : length s ≡ length s / 2 * 2 = sym (a .before .if3 .left) in
+    let e : length s ≡ length s / 2 * 2 = sym (eqb-true (length s / 2 * 2) (length s) (not-false _ (a .before .if3 .left))) in
     let n = bytes-half s (length s / 2) e in
     (inr (a .all-hex .ensures .0 (c .if4 .taken), e ∙ ap (λ (k : ℕ). k * 2) (sym n), omega (arith, a .before .before .if2 .left)), sym n)
 
-returns-5 : tie.Need-returns-5
-returns-5 c =
+returns-4 : tie.Need-returns-4
+returns-4 c =
     let a = c .before in
     no-text (a .before .before .before .before .before .args .word .now) (a .before .before .before .if1 .left) λ h l p. false≢true (sym (c .if4 .left) ∙ a .all-hex .ensures .1 h)
 
@@ -66,9 +66,8 @@ measure-spec =
     shared-slice-read-dash
     dash-requires
     returns
-    returns-2
     mul-if3
-    returns-3
+    returns-2
     all-hex-requires
-    returns-4
-    returns-5)
+    returns-3
+    returns-4)

@@ -15,8 +15,8 @@ use mir.Facts.{toZ-ofZ}
 use Rattle.ints.specs.Bounds.{fits-in}
 use Rattle.text_number.specs.Numbers.{Reads}
 use Rattle.text_number.specs.NumberLaws.{empty-bad}
-use Rattle.text_words.specs.Words.{firstWord, wordsOf}
-use Rattle.text_words.specs.WordLaws.{first-le, first-take, words-last, words-next}
+use Rattle.text_words.specs.Words.{spaceByte, firstWord, wordsOf}
+use Rattle.text_cut.specs.CutLaws.{first-le, first-take, parts-none, parts-last, parts-next}
 use Rattle.text_words.specs.ReadLaws.{Done, done-none, done-length, done-bad, done-full, done-more, done-last}
 use Rattle.text_number.specs.declared.Number.{Number}
 use Rattle.text_number.specs.declared.Number.the-variants.{Value}
@@ -35,18 +35,18 @@ module _ (line : List ℕ) (at end : ℕ) (here : at ≤ length line) (e : end �
   word = take (end - at) (drop at line)
 
   pub ends : (at ≤ end) × (end ≤ length line)
-  ends = (omega arith, omega (arith, first-le (drop at line), length-drop at line))
+  ends = (omega arith, omega (arith, first-le spaceByte (drop at line), length-drop at line))
 
   pub is-first : word ≡ firstWord (drop at line)
-  is-first = let n : end - at ≡ length (firstWord (drop at line)) = omega arith in ap (λ (k : ℕ). take k (drop at line)) n ∙ first-take (drop at line)
+  is-first = let n : end - at ≡ length (firstWord (drop at line)) = omega arith in ap (λ (k : ℕ). take k (drop at line)) n ∙ first-take spaceByte (drop at line)
 
   pub last : end ≡ length line → wordsOf (drop at line) ≡ word ∷ []
-  last l = words-last (drop at line) (omega (arith, length-drop at line)) ∙ ap (λ (w : List ℕ). w ∷ []) (sym is-first)
+  last l = parts-last spaceByte (drop at line) (omega (arith, length-drop at line)) ∙ ap (λ (w : List ℕ). w ∷ []) (sym is-first)
 
   pub next : (end ≡ length line → ⊥) → wordsOf (drop at line) ≡ word ∷ wordsOf (drop (end + 1) line)
   next l =
       let k : at + suc (length (firstWord (drop at line))) ≡ end + 1 = omega arith in
-      words-next (drop at line) (omega (arith, length-drop at line, ends .1, l))
+      parts-next spaceByte (drop at line) (omega (arith, length-drop at line, ends .1, l))
       ∙ ap (λ (t : List ℕ). firstWord (drop at line) ∷ wordsOf t) (drop-drop (suc (length (firstWord (drop at line)))) at line ∙ ap (λ (j : ℕ). drop j line) k)
       ∙ ap (λ (w : List ℕ). w ∷ wordsOf (drop (end + 1) line)) (sym is-first)
 
@@ -159,12 +159,11 @@ same-length-4 : tie.Need-same-length-4 Inv-loop μ-loop
 same-length-4 c = done-length (c .before .loop .inv)
 
 returns-4 : tie.Need-returns-4 Inv-loop μ-loop
-unfolding wordsOf
 returns-4 c =
     let l = c .before in
     let s = l .before .before .args .line .now in
     let e : drop (l .loop .at) s ≡ [] = drop-of-length-le s {i = l .loop .at} (omega (arith, c .loop-test .left)) in
-    done-bad (l .loop .inv) [] [] (ap wordsOf e) (empty-bad {word = []} refl)
+    done-bad (l .loop .inv) [] [] (ap wordsOf e ∙ parts-none spaceByte) (empty-bad {word = []} refl)
 
 pub read-numbers-spec : {M : Type 1} → statement M
 read-numbers-spec =

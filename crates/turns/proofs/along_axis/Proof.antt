@@ -9,7 +9,7 @@ use mir.Val.{SFits, toZ, ofZ}
 use mir.ValLaws.{toZ-ofZ}
 use Rattle.limits.specs.Limits
 use Rattle.ints.specs.Bounds.{Within, known, fits, worth-is}
-use Rattle.turns.specs.Turns.{axisOf}
+use Rattle.turns.specs.Turns.{namedAxis}
 use Rattle.turns.specs.Range.{axis-within}
 use Rattle.turns.proofs.Signs.{read-back}
 use Rattle.turns.proofs.along_axis.Statement.{statement}
@@ -24,12 +24,12 @@ negation v h = worth-is (search known depth 15) tt (+ℤ-idl (negℤ v))
 sign : (k : ℤ) (b : Bool) → SFits w8 k → ltZ (toZ w8 (ofZ w8 k)) (pos 0) ≡ b → ltZ k (pos 0) ≡ b
 sign k b f h = ap (λ (z : ℤ). ltZ z (pos 0)) (sym (toZ-ofZ w8 k f)) ∙ h
 
-is : (c : tie.After-axis-of) → c .axis-of .result ≡ axisOf (natAbs (c .before .args .k)) (c .before .args .x) (c .before .args .y) (c .before .args .z)
+is : (c : tie.After-axis-of) → c .axis-of .result ≡ namedAxis (natAbs (c .before .args .k)) (c .before .args .x) (c .before .args .y) (c .before .args .z)
 is c =
     let s = c .before in
     let a = s .args in
-    c .axis-of .ensures ∙ read-back (axisOf (natAbs (toZ w8 (ofZ w8 (a .k))))) (s .fits .x) (s .fits .y) (s .fits .z)
-    ∙ ap (λ (k : ℤ). axisOf (natAbs k) (a .x) (a .y) (a .z)) (toZ-ofZ w8 (a .k) (s .fits .k))
+    c .axis-of .ensures ∙ read-back (namedAxis (natAbs (toZ w8 (ofZ w8 (a .k))))) (s .fits .x) (s .fits .y) (s .fits .z)
+    ∙ ap (λ (k : ℤ). namedAxis (natAbs k) (a .x) (a .y) (a .z)) (toZ-ofZ w8 (a .k) (s .fits .k))
 
 reach : (c : tie.After-axis-of) → Within Limits.shapeReach (c .axis-of .result)
 reach c =
@@ -45,14 +45,16 @@ sub-result c = negation-fits _ (reach (c .before))
 returns : tie.Need-returns
 returns c =
     let a = c .before .before .args in
+    let v = namedAxis (natAbs (a .k)) (a .x) (a .y) (a .z) in
     negation (c .before .axis-of .result) (reach (c .before)) ∙ ap negℤ (is (c .before))
-    ∙ sym (ap (λ (b : Bool). cond b (negℤ (axisOf (natAbs (a .k)) (a .x) (a .y) (a .z))) (axisOf (natAbs (a .k)) (a .x) (a .y) (a .z))) (sign (a .k) true (c .before .before .fits .k) (c .if1 .taken)))
+    ∙ sym (ap (λ (b : Bool). cond b (negℤ v) v) (sign (a .k) true (c .before .before .fits .k) (c .if1 .taken)))
 
 returns-2 : tie.Need-returns-2
 returns-2 c =
     let a = c .before .before .args in
+    let v = namedAxis (natAbs (a .k)) (a .x) (a .y) (a .z) in
     toZ-ofZ w32 _ (record { sfits = c .before .axis-of .ok }) ∙ is (c .before)
-    ∙ sym (ap (λ (b : Bool). cond b (negℤ (axisOf (natAbs (a .k)) (a .x) (a .y) (a .z))) (axisOf (natAbs (a .k)) (a .x) (a .y) (a .z))) (sign (a .k) false (c .before .before .fits .k) (c .if1 .left)))
+    ∙ sym (ap (λ (b : Bool). cond b (negℤ v) v) (sign (a .k) false (c .before .before .fits .k) (c .if1 .left)))
 
 pub along-axis-spec : {M : Type 1} → statement M
 along-axis-spec = tie.close (tie.spec axis-of-requires sub-result returns returns-2)

@@ -1,42 +1,50 @@
 -- Each test on the bits of the signed axis leaves one coordinate.
-use mathlib.Core.Path.{sym, ap, _∙_}
-use lib.IntN.{ℤ, natAbs}
-use mir.Syntax.{w32}
+-- A test is passed by the axis or by its negation, which are the same axis without the sign.
+use Prim.Native.Nat.{ℕ}
+use mathlib.Core.Path.{_≡_, sym, ap, _∙_}
+use mathlib.Core.Logic.{⊎-elim}
+use borrow.Author.Tests.{eqb-true, eqb-false}
+use lib.IntN.{natAbs}
+use mir.Syntax.{w8, w32}
+use mir.Val.{ofZ}
 use mir.ValLaws.{toZ-ofZ}
-use Rattle.turns.specs.Turns.{axisOf}
+use Rattle.turns.specs.Turns.{namedAxis}
 use Rattle.turns.proofs.Signs.{from-bits, neither}
 use Rattle.turns.proofs.axis_of.Statement.{statement}
 use Rattle.turns.proofs.axis_of.Tie as tie
 
+first : (c : tie.Joined1) → natAbs (c .before .args .k) ≡ 1
+first c =
+    let k = c .before .args .k in
+    let f = c .before .fits .k in
+    ⊎-elim (λ w. ap natAbs (from-bits k 1 f (w .taken))) (λ w. ap natAbs (from-bits k 255 f (eqb-true (ofZ w8 k) 255 (w .1 .taken)))) (c .if1 .came)
+
 returns : tie.Need-returns
 returns c =
     let s = c .before in
-    let e = from-bits (s .args .k) 1 (s .fits .k) (c .if1 .taken) in
-    toZ-ofZ w32 (s .args .x) (s .fits .x) ∙ sym (ap (λ (k : ℤ). axisOf (natAbs k) (s .args .x) (s .args .y) (s .args .z)) e)
+    let a = s .args in
+    toZ-ofZ w32 (a .x) (s .fits .x) ∙ sym (ap (λ (n : ℕ). namedAxis n (a .x) (a .y) (a .z)) (first c))
+
+second : (c : tie.Joined3) → natAbs (c .before .before .before .args .k) ≡ 2
+second c =
+    let k = c .before .before .before .args .k in
+    let f = c .before .before .before .fits .k in
+    ⊎-elim (λ w. ap natAbs (from-bits k 2 f (w .taken))) (λ w. ap natAbs (from-bits k 254 f (eqb-true (ofZ w8 k) 254 (w .1 .taken)))) (c .if3 .came)
 
 returns-2 : tie.Need-returns-2
 returns-2 c =
-    let s = c .before .before in
-    let e = from-bits (s .args .k) 255 (s .fits .k) (c .if2 .taken) in
-    toZ-ofZ w32 (s .args .x) (s .fits .x) ∙ sym (ap (λ (k : ℤ). axisOf (natAbs k) (s .args .x) (s .args .y) (s .args .z)) e)
+    let s = c .before .before .before in
+    let a = s .args in
+    toZ-ofZ w32 (a .y) (s .fits .y) ∙ sym (ap (λ (n : ℕ). namedAxis n (a .x) (a .y) (a .z)) (second c))
 
 returns-3 : tie.Need-returns-3
 returns-3 c =
-    let s = c .before .before .before in
-    let e = from-bits (s .args .k) 2 (s .fits .k) (c .if3 .taken) in
-    toZ-ofZ w32 (s .args .y) (s .fits .y) ∙ sym (ap (λ (k : ℤ). axisOf (natAbs k) (s .args .x) (s .args .y) (s .args .z)) e)
-
-returns-4 : tie.Need-returns-4
-returns-4 c =
-    let s = c .before .before .before .before in
-    let e = from-bits (s .args .k) 254 (s .fits .k) (c .if4 .taken) in
-    toZ-ofZ w32 (s .args .y) (s .fits .y) ∙ sym (ap (λ (k : ℤ). axisOf (natAbs k) (s .args .x) (s .args .y) (s .args .z)) e)
-
-returns-5 : tie.Need-returns-5
-returns-5 c =
-    let s = c .before .before .before .before in
-    toZ-ofZ w32 (s .args .z) (s .fits .z)
-    ∙ sym (simp (neither (s .args .k) 0 (c .before .before .before .if1 .left) (c .before .before .if2 .left), neither (s .args .k) 1 (c .before .if3 .left) (c .if4 .left)))
+    let t = c .before .before in
+    let s = t .before .before in
+    let k = s .args .k in
+    let not-x = neither k 0 (t .before .if1 .left) (eqb-false (ofZ w8 k) 255 (t .if2 .left)) in
+    let not-y = neither k 1 (c .before .if3 .left) (eqb-false (ofZ w8 k) 254 (c .if4 .left)) in
+    toZ-ofZ w32 (s .args .z) (s .fits .z) ∙ sym (simp (not-x, not-y))
 
 pub axis-of-spec : {M : Type 1} → statement M
-axis-of-spec = tie.close (tie.spec returns returns-2 returns-3 returns-4 returns-5)
+axis-of-spec = tie.close (tie.spec returns returns-2 returns-3)

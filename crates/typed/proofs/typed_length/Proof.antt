@@ -9,15 +9,15 @@ use lib.ListN.{length, drop}
 use Rattle.limits.specs.Limits
 use Rattle.text_digits.specs.Decimal.{number}
 use Rattle.text_digits.specs.DecimalLaws.{leading, leading-le, leading-digits, number-few}
-use Rattle.typed.specs.TypedLength.{Answers}
+use Rattle.typed.specs.TypedLength.{LengthAnswers}
 use Rattle.typed.specs.Reading.{Few, afterWhole, reading}
 use Rattle.typed.specs.ReadingLaws.{reading-answers, form-refused, form-taken}
 use Rattle.typed.specs.declared.Typed.{Typed}
 use Rattle.typed.proofs.typed_length.Statement.{statement}
 use Rattle.typed.proofs.typed_length.Tie as tie
 
-answered : (text : List ℕ) {r : Typed} → r ≡ reading text → Answers text r
-answered text e = subst (Answers text) (sym e) (reading-answers text)
+answered : (text : List ℕ) {r : Typed} → r ≡ reading text → LengthAnswers text r
+answered text e = subst (LengthAnswers text) (sym e) (reading-answers text)
 
 digits-requires : tie.Need-digits-requires
 digits-requires c κs = search needs

@@ -1,7 +1,7 @@
 -- `verdict_portal::beside`: the neighbouring edge and the tie decide between the first corner's place and the second's.
 use mathlib.Core.Path.{refl}
 use mathlib.Core.Logic.{inl}
-use Rattle.verdict_portal.specs.Turn.{beside-here, beside-tied, said, unsaid}
+use Rattle.verdict_portal.specs.Rounds.{beside-here, beside-tied, said, unsaid}
 use borrow.Author.Needs.{needs}
 use Rattle.verdict_portal.proofs.beside.Statement.{statement}
 use Rattle.verdict_portal.proofs.beside.Tie as tie

@@ -1,10 +1,10 @@
 -- `verdict_portal::leading`: two choices of the first number that is not 0, of three dots.
 use mir.Syntax.{w64}
 use Rattle.ints.specs.Bounds.{worth, k-is, k-back, k-within}
-use Rattle.verdict_portal.specs.Turn.{k-lex, dot-within}
+use Rattle.verdict_portal.specs.Rounds.{k-lex, dot-within}
 use borrow.Author.Needs.{needs}
 use Rattle.ints.specs.Bounds.{worth, k-is}
-use Rattle.verdict_portal.specs.Turn.{k-lex}
+use Rattle.verdict_portal.specs.Rounds.{k-lex}
 use Rattle.verdict_portal.proofs.leading.Statement.{statement}
 use Rattle.verdict_portal.proofs.leading.Tie as tie
 

@@ -5,7 +5,7 @@ use lib.Signed.{ltZ}
 use mir.Syntax.{w64}
 use Rattle.ints.specs.Bounds.{known, worth, k-is, k-back}
 use Rattle.space.specs.Ranges.{upto-le}
-use Rattle.verdict_portal.specs.Turn.{side-is, k-lex}
+use Rattle.verdict_portal.specs.Rounds.{side-is, k-lex}
 use borrow.Author.Needs.{needs}
 use Rattle.verdict_portal.proofs.outside.Statement.{statement}
 use Rattle.verdict_portal.proofs.outside.Tie as tie

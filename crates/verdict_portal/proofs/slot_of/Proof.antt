@@ -1,6 +1,6 @@
 -- `verdict_portal::slot_of`: by the three edges' signs, of which not all are negative.
 use mathlib.Core.Path.{refl}
-use Rattle.verdict_portal.specs.Turn.{choose-two, choose-third-or-first, choose-third-or-none, said, unsaid}
+use Rattle.verdict_portal.specs.Rounds.{choose-two, choose-third-or-first, choose-third-or-none, said, unsaid}
 use borrow.Author.Needs.{needs}
 use Rattle.verdict_portal.proofs.slot_of.Statement.{statement}
 use Rattle.verdict_portal.proofs.slot_of.Tie as tie

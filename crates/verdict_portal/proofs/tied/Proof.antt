@@ -4,7 +4,7 @@ use lib.IntN.{pos}
 use lib.Signed.{ltZ}
 use mir.Syntax.{w64}
 use Rattle.ints.specs.Bounds.{worth, k-is, k-back, k-within}
-use Rattle.verdict_portal.specs.Turn.{tied-is, k-lex, leading-within}
+use Rattle.verdict_portal.specs.Rounds.{tied-is, k-lex, leading-within}
 use borrow.Author.Needs.{needs}
 use Rattle.verdict_portal.proofs.tied.Statement.{statement}
 use Rattle.verdict_portal.proofs.tied.Tie as tie

@@ -21,7 +21,11 @@ same-length c = search needs
 
 returns : tie.Need-returns
 returns c =
-    renewed (record { on-x = c .before .before .before .before .before .before .before .before .before .keys-of .ensures; on-y = c .before .before .before .before .before .before .before .before .keys-of2 .ensures; on-z = c .before .before .before .before .before .before .before .keys-of3 .ensures }) (c .before .before .reorder-marks .ensures)
+    let r = c .before .before in
+    let z = r .before .before .before .before .before in
+    let y = z .before in
+    let x = y .before in
+    renewed (record { on-x = x .keys-of .ensures; on-y = y .keys-of2 .ensures; on-z = z .keys-of3 .ensures }) (r .reorder-marks .ensures)
 
 pub renew-marks-spec : {M : Type 1} → statement M
 renew-marks-spec =

@@ -7,8 +7,8 @@ use mathlib.Core.Bool.{false≢true}
 use mathlib.Core.List.{List, _∷_}
 use native.Mathlib.Omega.{arith}
 use lib.ListN.{length, take, drop}
-use Rattle.text_words.specs.Words.{firstWord}
-use Rattle.text_words.specs.WordLaws.{first-take}
+use Rattle.text_words.specs.Words.{spaceByte, firstWord}
+use Rattle.text_cut.specs.CutLaws.{first-take}
 use Rattle.line.specs.Behind.{behind}
 use Rattle.line.specs.BehindLaws.{behind-none, next-is}
 use Rattle.line.specs.NamedLaws.{Leaves, name-first, name-here, name-next, name-none}
@@ -32,7 +32,7 @@ part-is s =
     let l = s .before .before in
     let rest = drop (l .loop .end + 1) (l .before .before .before .args .names .now) in
     let long : s .word-end .result - (l .loop .end + 1) ≡ length (firstWord rest) = omega (arith, s .word-end .ensures .0, s .before .loop-test .taken) in
-    ap (λ (k : ℕ). take k rest) long ∙ first-take rest
+    ap (λ (k : ℕ). take k rest) long ∙ first-take spaceByte rest
 
 loop-holds : tie.Need-loop-holds Inv-loop μ-loop
 loop-holds c = (omega arith, omega arith, let a = c .before .before .args in name-first (a .word .now) (behind (a .names .now) 0))

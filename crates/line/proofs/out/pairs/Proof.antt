@@ -15,14 +15,11 @@ abbrev μ-loop : tie.MeasureT-loop
 loop-holds : tie.Need-loop-holds Inv-loop μ-loop
 loop-holds c = (omega arith, refl)
 
-shared-slice-read-wide : tie.Need-shared-slice-read-wide Inv-loop μ-loop
-shared-slice-read-wide c = omega arith
+shared-slice-read-hex-byte : tie.Need-shared-slice-read-hex-byte Inv-loop μ-loop
+shared-slice-read-hex-byte c = omega arith
 
-wide-requires : tie.Need-wide-requires Inv-loop μ-loop
-wide-requires c κs = tt
-
-hex-requires : tie.Need-hex-requires Inv-loop μ-loop
-hex-requires c κs = tt
+hex-byte-requires : tie.Need-hex-byte-requires Inv-loop μ-loop
+hex-byte-requires c κs = tt
 
 add-i : tie.Need-add-i Inv-loop μ-loop
 add-i c = omega arith
@@ -31,7 +28,7 @@ loop-less : tie.Need-loop-less Inv-loop μ-loop
 loop-less c = omega arith
 
 loop-again : tie.Need-loop-again Inv-loop μ-loop
-loop-again c = (omega arith, c .before .before .hex .kept .0 ∙ c .before .before .before .before .before .before .before .loop .inv .1)
+loop-again c = (omega arith, c .before .before .hex-byte .kept .0 ∙ c .before .before .before .before .before .before .loop .inv .1)
 
 same-length : tie.Need-same-length Inv-loop μ-loop
 same-length c = c .before .loop .inv .1
@@ -46,9 +43,8 @@ pairs-spec =
     Inv-loop
     μ-loop
     loop-holds
-    shared-slice-read-wide
-    wide-requires
-    hex-requires
+    shared-slice-read-hex-byte
+    hex-byte-requires
     add-i
     loop-less
     loop-again

@@ -15,14 +15,14 @@ abbrev μ-loop : tie.MeasureT-loop
 loop-holds : tie.Need-loop-holds Inv-loop μ-loop
 loop-holds c = (omega arith, refl)
 
-mul-wide : tie.Need-mul-wide Inv-loop μ-loop
-mul-wide c = omega arith
+mul-wide-number : tie.Need-mul-wide-number Inv-loop μ-loop
+mul-wide-number c = omega arith
 
-shared-slice-copy-out-wide : tie.Need-shared-slice-copy-out-wide Inv-loop μ-loop
-shared-slice-copy-out-wide c = omega arith
+shared-slice-copy-out-wide-number : tie.Need-shared-slice-copy-out-wide-number Inv-loop μ-loop
+shared-slice-copy-out-wide-number c = omega arith
 
-wide-requires : tie.Need-wide-requires Inv-loop μ-loop
-wide-requires c κs = tt
+wide-number-requires : tie.Need-wide-number-requires Inv-loop μ-loop
+wide-number-requires c κs = tt
 
 next-number-requires : tie.Need-next-number-requires Inv-loop μ-loop
 next-number-requires c κs = tt
@@ -49,9 +49,9 @@ each-spec =
     Inv-loop
     μ-loop
     loop-holds
-    mul-wide
-    shared-slice-copy-out-wide
-    wide-requires
+    mul-wide-number
+    shared-slice-copy-out-wide-number
+    wide-number-requires
     next-number-requires
     add-i
     loop-less

@@ -3,19 +3,19 @@ use borrow.Author.Needs.{needs}
 use mathlib.Core.Path.{subst}
 use native.Mathlib.Omega.{arith}
 use lib.ListN.{length}
-use Rattle.line_read.specs.Held.{Behind}
+use Rattle.line_read.specs.ReadWithin.{ListWithin}
 use Rattle.line.specs.declared.parts.Index.the-variants.{At}
 use Rattle.line_read.proofs.lists.both_lists.Statement.{statement}
 use Rattle.line_read.proofs.lists.both_lists.Tie as tie
 
-first-ends : (c : tie.After-first) → Behind 0 (length (c .before .before .before .before .args .numbers .now)) (At (c .first .given .0 .0))
-first-ends c = subst (Behind 0 (length (c .before .before .before .before .args .numbers .now))) (c .first .given .1) (c .before .before .list-end .ensures)
+first-ends : (c : tie.After-first) → ListWithin 0 (length (c .before .before .before .before .args .numbers .now)) (At (c .first .given .0 .0))
+first-ends c = subst (ListWithin 0 (length (c .before .before .before .before .args .numbers .now))) (c .first .given .1) (c .before .before .list-end .ensures)
 
 second-ends : (c : tie.After-second)
-    → let f = c .before .before .before .before in Behind (f .first .given .0 .0) (length (f .before .before .before .before .args .numbers .now)) (At (c .second .given .0 .0))
+    → let f = c .before .before .before .before in ListWithin (f .first .given .0 .0) (length (f .before .before .before .before .args .numbers .now)) (At (c .second .given .0 .0))
 second-ends c =
     let f = c .before .before .before .before in
-    subst (Behind (f .first .given .0 .0) (length (f .before .before .before .before .args .numbers .now))) (c .second .given .1) (c .before .before .list-end2 .ensures)
+    subst (ListWithin (f .first .given .0 .0) (length (f .before .before .before .before .args .numbers .now))) (c .second .given .1) (c .before .before .list-end2 .ensures)
 
 list-end-requires : tie.Need-list-end-requires
 list-end-requires c κs = search needs

@@ -4,14 +4,14 @@ use Prim.Native.Nat.{_≤_, _-_}
 use mathlib.Core.Path.{subst}
 use native.Mathlib.Omega.{arith}
 use lib.ListN.{length, length-take}
-use Rattle.line_read.specs.Held.{Kept}
+use Rattle.line_read.specs.ReadWithin.{TextsWithin}
 use Rattle.line_read.proofs.texts.line.Statement.{statement}
 use Rattle.line_read.proofs.texts.line.Tie as tie
 
 kept : (c : tie.After-k) → (c .k .given .0 .1 .0 ≤ c .k .given .0 .1 .1 .0) × (c .k .given .0 .1 .1 .0 ≤ length (c .before .before .before .before .read-request .last .1 .1 .0))
 kept c =
     let r = c .before .before .before .before in
-    let k = subst (Kept (length (r .before .before .before .before .before .args .room .now))) (c .k .given .1) (r .read-request .ensures) in
+    let k = subst (TextsWithin (length (r .before .before .before .before .before .args .room .now))) (c .k .given .1) (r .read-request .ensures) in
     (k .0, omega (arith, k .1, r .read-request .kept .1 .1 .0))
 
 read-request-requires : tie.Need-read-request-requires

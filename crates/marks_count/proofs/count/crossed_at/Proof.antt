@@ -8,7 +8,7 @@ use native.Mathlib.Omega.{arith}
 use lib.ListN.{getD}
 use borrow.Author.Tests.{eq-eqb, ne-eqb, lt-ltb, le-ltb}
 use lib.Dec.{ltb}
-use Rattle.marks.specs.Marks.{lowMark, highMark, placeOf}
+use Rattle.marks.specs.Marks.{lowMark, highMark, markPlace}
 use Rattle.marks.specs.Keys.{noKey}
 use Rattle.ints.specs.Counts.{and-false}
 use Rattle.marks.specs.Sorted.{notOf}
@@ -23,12 +23,12 @@ module _ (old new : List ℕ) (place other : ℕ) where
   no-mark : noKey ≤ getD old other 0 → 0 ≡ crossedAt old new place other
   no-mark l = sym (ap (λ (b : Bool). cond (b && notOf place other) both 0) (le-ltb (getD old other 0) noKey l))
 
-  own-mark : placeOf other ≡ place → 0 ≡ crossedAt old new place other
+  own-mark : markPlace other ≡ place → 0 ≡ crossedAt old new place other
   own-mark e =
-      sym (ap (λ (b : Bool). cond (ltb (getD old other 0) noKey && not b) both 0) (eq-eqb (placeOf other) place e) ∙ ap (λ (b : Bool). cond b both 0) (and-false (ltb (getD old other 0) noKey)))
+      sym (ap (λ (b : Bool). cond (ltb (getD old other 0) noKey && not b) both 0) (eq-eqb (markPlace other) place e) ∙ ap (λ (b : Bool). cond b both 0) (and-false (ltb (getD old other 0) noKey)))
 
-  other-mark : getD old other 0 < noKey → (placeOf other ≡ place → ⊥) → both ≡ crossedAt old new place other
-  other-mark l n = sym (ap (λ (b : Bool). cond (b && notOf place other) both 0) (lt-ltb (getD old other 0) noKey l) ∙ ap (λ (b : Bool). cond (not b) both 0) (ne-eqb (placeOf other) place n))
+  other-mark : getD old other 0 < noKey → (markPlace other ≡ place → ⊥) → both ≡ crossedAt old new place other
+  other-mark l n = sym (ap (λ (b : Bool). cond (b && notOf place other) both 0) (lt-ltb (getD old other 0) noKey l) ∙ ap (λ (b : Bool). cond (not b) both 0) (ne-eqb (markPlace other) place n))
 
 one : (c : tie.After-crossed) → c .crossed .result ≤ 1
 one c =

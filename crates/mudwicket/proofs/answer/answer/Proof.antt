@@ -7,8 +7,8 @@ use borrow.Author.Needs.{needs}
 use Rattle.mudwicket.proofs.answer.answer.Statement.{statement}
 use Rattle.mudwicket.proofs.answer.answer.Tie as tie
 
-found-requires : tie.Need-found-requires
-found-requires c κs = search needs
+command-in-requires : tie.Need-command-in-requires
+command-in-requires c κs = search needs
 
 enum-known-command : tie.Need-enum-known-command
 enum-known-command c = search needs
@@ -47,7 +47,8 @@ returns : tie.Need-returns
 returns c =
     let t = c .before .before .before .before in
     let k = t .before .before .before .before .before .before .before .before .before .before in
-    answered-told (k .before .before .before .found .ensures) (k .command .given .1) (t .tell .ensures)
+    let f = k .before .before .before in
+    answered-told (f .command-in .last .1 .1 .0) (f .command-in .ensures) (k .command .given .1) (t .tell .ensures)
 
 same-length-4 : tie.Need-same-length-4
 same-length-4 c = search needs
@@ -66,7 +67,7 @@ returns-2 c =
     let k = c .before .before .before .before .before .before .before .before .before .before .before .before .before .before in
     let f = k .before .before .before in
     let a = f .before .before .before .before .before .before .args in
-    answered-asked (f .found .ensures)
+    answered-asked (f .command-in .last .1 .1 .0) (f .command-in .ensures)
     (min (getD (a .lent .now) 1 0) (length (a .marks .now))) (deskOf (a .shapes .now) (a .places .now) (a .rows .now) (a .book .now) (a .marks .now)) (k .a .given .1)
 
 same-length-8 : tie.Need-same-length-8
@@ -83,7 +84,7 @@ returns-3 c =
     let k = c .before .before .before .before .before .before .before .before .before .before .before .before in
     let f = k .before .before .before in
     let a = f .before .before .before .before .before .before .args in
-    answered-spoiled (f .found .ensures)
+    answered-spoiled (f .command-in .last .1 .1 .0) (f .command-in .ensures)
     (min (getD (a .lent .now) 1 0) (length (a .marks .now))) (deskOf (a .shapes .now) (a .places .now) (a .rows .now) (a .book .now) (a .marks .now)) _ (k .cell .given .1)
 
 same-length-11 : tie.Need-same-length-11
@@ -100,14 +101,14 @@ returns-4 c =
     let k = c .before .before .before .before .before .before .before .before .before .before .before in
     let f = k .before .before .before in
     let a = f .before .before .before .before .before .before .args in
-    answered-other (f .found .ensures)
+    answered-other (f .command-in .last .1 .1 .0) (f .command-in .ensures)
     (min (getD (a .lent .now) 1 0) (length (a .marks .now))) (deskOf (a .shapes .now) (a .places .now) (a .rows .now) (a .book .now) (a .marks .now)) (k .o .given .1)
 
 pub answer-spec : {M : Type 1} → statement M
 answer-spec =
     tie.close
     (tie.spec
-    found-requires
+    command-in-requires
     enum-known-command
     tell-requires
     enum-known-a

@@ -1,7 +1,7 @@
 -- `pieces::placed::piece_ends`: the ends by the pose are those of the store.
 use mathlib.Core.Path.{sym, subst}
 use Rattle.pieces.specs.Pieces.{storeOf}
-use Rattle.pieces.specs.Placed.{Held, EndsOf}
+use Rattle.pieces.specs.Placed.{PoseFits, EndsOf}
 use Rattle.pieces.specs.Store.{asked, held}
 use Rattle.pieces.specs.BoxLaws.{ends-at}
 use Rattle.pieces.proofs.placed.piece_ends.Statement.{statement}
@@ -13,7 +13,7 @@ pose-of-requires c κs = asked (c .pre .0 .order) (c .args .place) (c .pre .0 .t
 ends-of-requires : tie.Need-ends-of-requires
 ends-of-requires c κs =
     let s = c .before in
-    (subst (λ p. Held (s .args .shapes .now) (s .args .places .now) p (s .args .place)) (sym (c .pose-of .ensures)) (held (s .pre .0 .order) (s .args .place) (s .pre .0 .taken)), s .pre .1)
+    (subst (λ p. PoseFits (s .args .shapes .now) (s .args .places .now) p (s .args .place)) (sym (c .pose-of .ensures)) (held (s .pre .0 .order) (s .args .place) (s .pre .0 .taken)), s .pre .1)
 
 returns : tie.Need-returns
 returns c =

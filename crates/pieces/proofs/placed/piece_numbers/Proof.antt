@@ -1,7 +1,7 @@
 -- `pieces::placed::piece_numbers`: the numbers by the pose are those of the store.
 use mathlib.Core.Path.{sym, subst}
 use Rattle.pieces.specs.Pieces.{storeOf}
-use Rattle.pieces.specs.Placed.{Held, NumbersOf}
+use Rattle.pieces.specs.Placed.{PoseFits, NumbersOf}
 use Rattle.pieces.specs.Store.{asked, held}
 use Rattle.pieces.specs.BoxLaws.{numbers-of}
 use Rattle.pieces.proofs.placed.piece_numbers.Statement.{statement}
@@ -13,7 +13,7 @@ pose-of-requires c κs = asked (c .pre .order) (c .args .place) (c .pre .taken)
 numbers-of-requires : tie.Need-numbers-of-requires
 numbers-of-requires c κs =
     let s = c .before in
-    subst (λ p. Held (s .args .shapes .now) (s .args .places .now) p (s .args .place)) (sym (c .pose-of .ensures)) (held (s .pre .order) (s .args .place) (s .pre .taken))
+    subst (λ p. PoseFits (s .args .shapes .now) (s .args .places .now) p (s .args .place)) (sym (c .pose-of .ensures)) (held (s .pre .order) (s .args .place) (s .pre .taken))
 
 returns : tie.Need-returns
 returns c =

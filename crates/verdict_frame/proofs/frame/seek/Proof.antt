@@ -6,7 +6,7 @@ use Rattle.limits.specs.DecidesLaws.{unless-taken, unless-left}
 use Rattle.space.specs.Verdicts.{cornerCount}
 use Rattle.verdict_walk.specs.PointLaws.{some-corner}
 use Rattle.verdict_frame.specs.Frames.{Level, scanned}
-use Rattle.verdict_frame.specs.FrameLaws.{left-inside, right-inside, turned, sought-found, sought-none, scan-level}
+use Rattle.verdict_frame.specs.FrameLaws.{left-inside, right-inside, scanned-at, sought-found, sought-none, scan-level}
 use borrow.Author.Count.{below-more}
 use borrow.Author.Needs.{needs}
 use Rattle.verdict_frame.proofs.frame.seek.Statement.{statement}
@@ -47,13 +47,13 @@ difference-requires c κs =
 level-requires : tie.Need-level-requires Inv-loop μ-loop
 level-requires c κs = (
   c .before .before .before .before .before .before .pre .0,
-  turned (c .before .before .before .before .before .before .pre .1 .0) (c .before .before .before .before .before .before .pre .1 .1)
+  scanned-at (c .before .before .before .before .before .before .pre .1 .0) (c .before .before .before .before .before .before .pre .1 .1)
       (omega arith) (c .before .before .before .left-at .ensures) (c .before .before .right-at .ensures) (c .before .difference .ensures) .near,
 )
 
 returns : tie.Need-returns Inv-loop μ-loop
 returns c =
-    sought-found (turned (c .before .before .before .before .before .before .before .before .pre .1 .0) (c .before .before .before .before .before .before .before .before .pre .1 .1) (omega arith)
+    sought-found (scanned-at (c .before .before .before .before .before .before .before .before .pre .1 .0) (c .before .before .before .before .before .before .before .before .pre .1 .1) (omega arith)
     (c .before .before .before .before .before .left-at .ensures) (c .before .before .before .before .right-at .ensures) (c .before .before .before .difference .ensures) .tagged)
     (unless-taken (c .before .level .ensures) (c .if1 .taken))
 
@@ -69,7 +69,7 @@ loop-again c =
       omega arith,
       below-more _ _ (c .before .before .before .before .before .before .before .loop .inv .1)
           (subst (Level (s .rows))
-          (turned (c .before .before .before .before .before .before .before .before .pre .1 .0) (c .before .before .before .before .before .before .before .before .pre .1 .1) (omega arith)
+          (scanned-at (c .before .before .before .before .before .before .before .before .pre .1 .0) (c .before .before .before .before .before .before .before .before .pre .1 .1) (omega arith)
           (c .before .before .before .before .before .left-at .ensures) (c .before .before .before .before .right-at .ensures) (c .before .before .before .difference .ensures) .is) (unless-left
           (c .before .level .ensures) (c .if1 .left))),
     )

@@ -4,7 +4,7 @@ use mathlib.Core.Logic.{inl, inr}
 use lib.IntN.{pos}
 use lib.Signed.{ltZ}
 use Rattle.space.specs.Vectors.{det}
-use Rattle.verdict_portal.specs.Turn.{said, unsaid}
+use Rattle.verdict_portal.specs.Rounds.{said, unsaid}
 use Rattle.verdict_walk.specs.Ends.{Corners}
 use borrow.Author.Needs.{needs}
 use Rattle.verdict_frame.proofs.frame.start_of.Statement.{statement}

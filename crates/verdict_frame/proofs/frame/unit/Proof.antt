@@ -1,4 +1,4 @@
--- `verdict_frame::unit`: one step along axis j.
+-- `verdict_frame::unit`: the unit along axis j.
 use mathlib.Core.Path.{sym, ap}
 use Rattle.ints.specs.Bounds.{known, within}
 use Rattle.verdict_portal.specs.Flat.{unit}

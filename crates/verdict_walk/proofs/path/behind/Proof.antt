@@ -4,7 +4,7 @@ use lib.IntN.{pos}
 use lib.Signed.{ltZ}
 use mir.Syntax.{w64}
 use Rattle.ints.specs.Bounds.{known, worth, k-is, k-back}
-use Rattle.verdict_portal.specs.Turn.{k-lex}
+use Rattle.verdict_portal.specs.Rounds.{k-lex}
 use borrow.Author.Needs.{needs}
 use Rattle.verdict_walk.proofs.path.behind.Statement.{statement}
 use Rattle.verdict_walk.proofs.path.behind.Tie as tie

@@ -1,5 +1,5 @@
 -- `verdict_walk::walk`: the portal is held at each turn, and with each turn that goes on the measure is less.
-use Rattle.verdict_portal.specs.Turn.{said, unsaid}
+use Rattle.verdict_portal.specs.Rounds.{said, unsaid}
 use Rattle.verdict_walk.specs.Ends.{Begun, leftOf}
 use Rattle.verdict_walk.specs.EndLaws.{corners, point-upto, walked-apart, walked-met, ready, onward}
 use borrow.Author.Needs.{needs}
@@ -37,15 +37,15 @@ returns c =
     walked-apart (c .before .before .before .before .before .before .loop .inv) (c .before .before .before .before .before .places-of .ensures) (c .before .before .before .before .normal-of .ensures)
     (c .before .before .before .support .ensures) (said (c .before .behind .ensures) (c .if1 .taken))
 
-step-requires : tie.Need-step-requires Inv-loop μ-loop
-step-requires c κs =
+round-requires : tie.Need-round-requires Inv-loop μ-loop
+round-requires c κs =
     ready (c .before .before .before .before .before .before .loop .inv) (c .before .before .before .before .before .places-of .ensures) (c .before .before .before .before .normal-of .ensures)
     (c .before .before .before .support .ensures) (c .before .before .before .before .before .before .before .pre .0) (unsaid (c .before .behind .ensures) (c .if1 .left))
 
 returns-2 : tie.Need-returns-2 Inv-loop μ-loop
 returns-2 c =
     walked-met (c .before .before .before .before .before .before .before .before .loop .inv) (c .before .before .before .before .before .before .before .places-of .ensures)
-    (c .before .before .before .before .before .before .normal-of .ensures) (c .before .before .before .before .before .support .ensures) (c .before .step .ensures) (c .if2 .taken)
+    (c .before .before .before .before .before .before .normal-of .ensures) (c .before .before .before .before .before .support .ensures) (c .before .round .ensures) (c .if2 .taken)
 
 replaced-requires : tie.Need-replaced-requires Inv-loop μ-loop
 replaced-requires c κs = search needs
@@ -53,12 +53,12 @@ replaced-requires c κs = search needs
 loop-less : tie.Need-loop-less Inv-loop μ-loop
 loop-less c =
     onward (c .before .before .before .before .before .before .before .before .before .loop .inv) (c .before .before .before .before .before .before .before .before .places-of .ensures)
-    (c .before .before .before .before .before .before .support .ensures .tagged) (c .before .before .step .ensures) (c .before .if2 .left) (c .replaced .ensures) .less
+    (c .before .before .before .before .before .before .support .ensures .tagged) (c .before .before .round .ensures) (c .before .if2 .left) (c .replaced .ensures) .less
 
 loop-again : tie.Need-loop-again Inv-loop μ-loop
 loop-again c =
     onward (c .before .before .before .before .before .before .before .before .before .loop .inv) (c .before .before .before .before .before .before .before .before .places-of .ensures)
-    (c .before .before .before .before .before .before .support .ensures .tagged) (c .before .before .step .ensures) (c .before .if2 .left) (c .replaced .ensures) .begun
+    (c .before .before .before .before .before .before .support .ensures .tagged) (c .before .before .round .ensures) (c .before .if2 .left) (c .replaced .ensures) .begun
 
 pub walk-spec : {M : Type 1} → statement M
 walk-spec =
@@ -72,7 +72,7 @@ walk-spec =
     support-requires
     behind-requires
     returns
-    step-requires
+    round-requires
     returns-2
     replaced-requires
     loop-less
