@@ -113,7 +113,7 @@ fn uncut(from: usize, to: usize, skipping: bool, ended: bool) -> State
         from,
         seen: to,
         to,
-        start: line_start(skipping, from, to),
+        start: end_if_skipping(skipping, from, to),
         end: to,
         arrival,
         skipping,
@@ -182,8 +182,8 @@ fn nothing_if_skipping(skipping: bool, arrival: Arrival) -> Arrival {
     if skipping { Arrival::Nothing } else { arrival }
 }
 
-// Where the line starts that waits; of one that was too long nothing is left.
-fn line_start(skipping: bool, from: usize, to: usize) -> usize
+// Where a line starts that waits; of one that was too long nothing is left before its end.
+fn end_if_skipping(skipping: bool, from: usize, to: usize) -> usize
     requires { ⌜ from ≤ to ⌝ }
     ensures { λ r. ⌜ r ≤ to ⌝ }
 {
