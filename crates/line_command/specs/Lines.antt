@@ -108,3 +108,12 @@ PassedOver (b ∷ line) = b ≡ 35
 pub record CommandOf (line : List ℕ) (room exit : List ℤ) (c : Line) : Type 0 where
   pub passed : PassedOver line → (exit ≡ room) × (c ≡ Other Nothing)
   pub read : (PassedOver line → ⊥) → (word : List ℕ) (behind : List (List ℕ)) → wordsOf line ≡ word ∷ behind → OfWord word behind room exit c
+
+-- "a line of more than 16,384 bytes gets one `?`" (docs/COMMANDS.md)
+abbrev pub mostBytes : ℕ
+mostBytes = 16384
+
+-- what a line says: one that is too long is no command
+pub record LineSays (line : List ℕ) (room exit : List ℤ) (c : Line) : Type 0 where
+  pub too-long : (length line ≤ mostBytes → ⊥) → c ≡ unknown
+  pub is-read : length line ≤ mostBytes → CommandOf line room exit c

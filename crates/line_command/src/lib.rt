@@ -4,8 +4,9 @@ ghost use mathlib.Core.Path.{_≡_};
 ghost use mathlib.Core.Bool.{true};
 ghost use mathlib.Core.Logic.{_↔_};
 ghost use Rattle.line.specs.Behind.{behind, Finds};
-ghost use Rattle.line_command.specs.Lines.{takes, loadOf, placeOf, moveOf, removeOf, pairOf, deskWords, Unknowing, OfDesk, OfWord, PassedOver, CommandOf};
+ghost use Rattle.line_command.specs.Lines.{takes, loadOf, placeOf, moveOf, removeOf, pairOf, deskWords, Unknowing, OfDesk, OfWord, PassedOver, CommandOf, LineSays};
 use desk::Command;
+use line::lent::MOST_BYTES;
 use line::names::name_of;
 use line::parts::Index;
 use line::parts::numbers_behind;
@@ -55,8 +56,18 @@ const REMOVE_NUMBERS: usize = 1;
 
 const PAIR_NUMBERS: usize = 2;
 
-// What a line says, its numbers in the room's first cells.
-pub fn read(line: &[u8], numbers: &mut [i32]) -> Line
+// What a line says, where it is not too long.
+pub fn says(line: &[u8], numbers: &mut [i32]) -> Line
+    ensures { λ r. ⌜ LineSays (now (line .entry)) (now (numbers .entry)) (now (numbers .exit)) r ⌝ }
+{
+    if MOST_BYTES < line.len() {
+        return Line::Other(Other::Unknown);
+    }
+    read(line, numbers)
+}
+
+// What a line of any length says, its numbers in the room's first cells.
+fn read(line: &[u8], numbers: &mut [i32]) -> Line
     ensures { λ r. ⌜ CommandOf (now (line .entry)) (now (numbers .entry)) (now (numbers .exit)) r ⌝ }
 {
     if is_passed_over(line) {

@@ -1,27 +1,17 @@
 -- What a line does to the desk: its command, and what the desk does when it is told that.
 -- `Answered` is all that is promised of the desk after a line; a `spoil` alone may put anything there.
-use Prim.Native.Nat.{ℕ, _≤_}
+use Prim.Native.Nat.{ℕ}
 use mathlib.Core.Path.{_≡_}
 use mathlib.Core.List.{List}
 use lib.IntN.{ℤ}
-use lib.ListN.{length}
 use Rattle.desk_state.specs.Desk.{Desk}
-use Rattle.line_command.specs.Lines.{unknown, CommandOf}
+use Rattle.line_command.specs.Lines.{unknown, LineSays}
 use Rattle.line_command.specs.declared.Line.{Line}
 use Rattle.line_command.specs.declared.Line.the-variants.{Tell, Ask, Spoil, Other}
 use Rattle.line_command.specs.declared.Other.the-variants.{Nothing as NothingSaid}
 use Rattle.line_tell.specs.Tells.{Tells}
 use Rattle.mudwicket.specs.declared.input.Arrival.{Arrival}
 use Rattle.mudwicket.specs.declared.input.Arrival.the-variants.{Nothing, Line as OneLine, TooLong, Unfinished, Last}
-
--- "a line of more than 16,384 bytes gets one `?`" (docs/COMMANDS.md)
-abbrev pub mostBytes : ℕ
-mostBytes = 16384
-
--- what a line says: one that is too long is no command
-pub record LineSays (line : List ℕ) (room exit : List ℤ) (c : Line) : Type 0 where
-  pub too-long : (length line ≤ mostBytes → ⊥) → c ≡ unknown
-  pub is-read : length line ≤ mostBytes → CommandOf line room exit c
 
 -- what that says which a round of the input found: nothing is passed over, a line that is too long is no command, and else it is what the line says
 abbrev pub CommandIn : Arrival → List ℕ → List ℤ → List ℤ → Line → Type 0

@@ -3,15 +3,14 @@
 ghost use Prim.Native.Nat.{min};
 ghost use lib.ListN.{length, getD};
 ghost use Rattle.desk_state.specs.Desk.{deskOf};
-ghost use Rattle.mudwicket.specs.Answered.{LineSays, CommandIn, Answered};
+ghost use Rattle.mudwicket.specs.Answered.{CommandIn, Answered};
 use crate::input::Arrival;
 use line::lent;
-use line::lent::MOST_BYTES;
 use line::out;
 use line_ask::asked;
 use line_command::Line;
 use line_command::Other;
-use line_command::read;
+use line_command::says;
 use line_read::floats;
 use line_read::lists;
 use line_read::texts;
@@ -66,16 +65,6 @@ fn command_in(arrival: Arrival, line: &[u8], numbers: &mut [i32]) -> Line
         Arrival::TooLong => Line::Other(Other::Unknown),
         _ => says(line, numbers),
     }
-}
-
-// What a line says, where it is not too long.
-fn says(line: &[u8], numbers: &mut [i32]) -> Line
-    ensures { λ r. ⌜ LineSays (now (line .entry)) (now (numbers .entry)) (now (numbers .exit)) r ⌝ }
-{
-    if MOST_BYTES < line.len() {
-        return Line::Other(Other::Unknown);
-    }
-    read(line, numbers)
 }
 
 // The answer to a command that the desk has no part in.

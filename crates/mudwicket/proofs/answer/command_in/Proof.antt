@@ -9,7 +9,8 @@ use types.Run.{OneOf}
 use denote.Enum.Declared.{tagOf}
 use lib.IntN.{ℤ}
 use Rattle.line_command.specs.declared.Line.{Line}
-use Rattle.mudwicket.specs.Answered.{LineSays, CommandIn}
+use Rattle.line_command.specs.Lines.{LineSays}
+use Rattle.mudwicket.specs.Answered.{CommandIn}
 use Rattle.mudwicket.specs.declared.input.Arrival.{Arrival}
 use Rattle.mudwicket.specs.declared.input.Arrival.the-variants.{Nothing, Line as OneLine, TooLong, Unfinished, Last}
 use Rattle.mudwicket.proofs.input.Arrival.{the-type}

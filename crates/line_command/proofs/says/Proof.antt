@@ -1,9 +1,9 @@
--- `mudwicket::answer::says` meets its contract: a line that is not too long is read.
+-- `line_command::says` meets its contract: a line that is not too long is read.
 use borrow.Author.Needs.{needs}
 use mathlib.Core.Path.{refl}
 use native.Mathlib.Omega.{arith}
-use Rattle.mudwicket.proofs.answer.says.Statement.{statement}
-use Rattle.mudwicket.proofs.answer.says.Tie as tie
+use Rattle.line_command.proofs.says.Statement.{statement}
+use Rattle.line_command.proofs.says.Tie as tie
 
 returns : tie.Need-returns
 returns c = record { too-long = λ _. refl; is-read = λ h. absurd (omega (arith, c .if1 .taken)) }
