@@ -1,4 +1,5 @@
-//! Typed lengths: 1 to 4 digits, then nothing, or one comma or point and 1 or 2 digits.
+//! Typed lengths: 1 to 4 digits, then nothing, or one comma or point and 1 or 2 digits. By request W1 a whole part of several digits has
+//! no zero in front.
 //! The text is cut at its first separator; both parts are read as decimal numbers of their own.
 
 use crate::point::Number;
@@ -13,12 +14,18 @@ pub fn digits(text: &[u8], least: usize, most: usize) -> Option<Number> {
     fits.then(|| text.iter().fold(0, value))
 }
 
+/// The whole part: `0` itself may start with a zero, and nothing longer.
+fn whole(text: &[u8]) -> Option<Number> {
+    let value = digits(text, 1, 4)?;
+    (text == b"0" || text[0] != b'0').then_some(value)
+}
+
 /// The hundredths of a millimetre that the text says, where it has the form.
 fn hundredths(text: &[u8]) -> Option<Number> {
     match text.iter().position(|byte| matches!(byte, b',' | b'.')) {
-        None => Some(100 * digits(text, 1, 4)?),
+        None => Some(100 * whole(text)?),
         Some(cut) => {
-            let whole = digits(&text[..cut], 1, 4)?;
+            let whole = whole(&text[..cut])?;
             let rest = &text[cut + 1..];
             let part = digits(rest, 1, 2)?;
             let scale = if rest.len() == 1 { 10 } else { 1 };
@@ -42,13 +49,14 @@ mod tests {
 
     #[test]
     fn bench_texts() {
-        let good: [(&str, Number); 9] = [
+        let good: [(&str, Number); 10] = [
             ("1,5", 96),
             ("1.5", 96),
             ("15", 960),
             ("0,1", 7),
             ("0,01", 1),
-            ("0001,5", 96),
+            ("0.25", 16),
+            ("10,5", 672),
             ("1024", 65_536),
             ("1024,00", 65_536),
             ("0", 0),
@@ -60,7 +68,8 @@ mod tests {
             assert_eq!(steps(text.as_bytes()), Err(15), "{text}");
         }
         for text in [
-            "1.500", "1,", ",5", "", "00001", "1,5,", "1 ", "-1", "+1", "9999,999", "1,,5",
+            "1.500", "1,", ",5", "", "00001", "1,5,", "1 ", "-1", "+1", "9999,999", "1,,5", "0001,5",
+            "00", "01", "010", "00,5", "0000",
         ] {
             assert_eq!(steps(text.as_bytes()), Err(14), "{text}");
         }

@@ -5,11 +5,11 @@ use mathlib.Core.Path.{_≡_}
 use mathlib.Core.List.{List, [], _∷_}
 use mathlib.Core.Logic.{inl, inr, ite}
 use native.Mathlib.Decide.{decLe, ℕ-discrete}
-use lib.ListN.{length, drop}
+use lib.ListN.{length, getD, drop}
 use Rattle.limits.specs.Limits
 use Rattle.text_digits.specs.Decimal.{number}
 use Rattle.text_digits.specs.DecimalLaws.{both, digits?, leading}
-use Rattle.typed.specs.TypedLength.{CommaOrPoint}
+use Rattle.typed.specs.TypedLength.{CommaOrPoint, NeedlessZero}
 use Rattle.typed.specs.declared.Typed.{Typed}
 use Rattle.typed.specs.declared.Typed.the-variants.{Steps, Refused}
 
@@ -30,6 +30,24 @@ Few most ds = (1 ≤ length ds) × (length ds ≤ most)
 unfoldable pub few? : (most : ℕ) (ds : List ℕ) → Dec (Few most ds)
 unfolding both decLe
 few? most ds = both (decLe 1 (length ds)) (decLe (length ds) most)
+
+-- a whole part: few digits, and no needless zero in front of them
+abbrev pub Whole : List ℕ → Type 0
+Whole ds = Few Limits.wholeDigits ds × (NeedlessZero ds → ⊥)
+
+unfoldable pub plain? : (ds : List ℕ) → Dec (NeedlessZero ds → ⊥)
+unfolding decLe ℕ-discrete
+plain? ds = go (decLe 2 (length ds)) (ℕ-discrete (getD ds 0 0) 48)
+  where
+    go : Dec (2 ≤ length ds) → Dec (getD ds 0 0 ≡ 48) → Dec (NeedlessZero ds → ⊥)
+    go (yes s) (yes z) = no λ n. n (record { several = s; zero = z })
+    go (yes s) (no z) = yes λ h. z (h .zero)
+    go (no s) (yes z) = yes λ h. s (h .several)
+    go (no s) (no z) = yes λ h. s (h .several)
+
+unfoldable pub whole? : (ds : List ℕ) → Dec (Whole ds)
+unfolding both few? plain?
+whole? ds = both (few? Limits.wholeDigits ds) (plain? ds)
 
 -- where a number that is read stops growing, far above those of a typed length
 abbrev pub cut : ℕ
@@ -55,8 +73,8 @@ afterWhole whole [] = judged (whole * 100)
 afterWhole whole (c ∷ t) = ite (separator? c) (afterSeparator whole t) (Refused Limits.lengthForm)
 
 unfoldable pub reading : List ℕ → Typed
-unfolding leading number few? afterWhole
+unfolding leading number whole? afterWhole
 reading s =
-    ite (few? Limits.wholeDigits (leading s))
+    ite (whole? (leading s))
     (afterWhole (number (leading s)) (drop (length (leading s)) s))
     (Refused Limits.lengthForm)

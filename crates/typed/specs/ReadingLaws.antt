@@ -14,7 +14,7 @@ use Rattle.text_digits.specs.Decimal.{Digits, number, Follows}
 use Rattle.text_digits.specs.DecimalLaws.{both, digits?, leading, leading-digits, leading-split, whole-leading, rest-follows}
 use Rattle.typed.specs.TypedLength.{CommaOrPoint, TypedAs, Hundredths, NotOfForm, RoundedUp, LengthAnswers}
 use Rattle.typed.specs.TypedLaws.{apart, hundredths-once}
-use Rattle.typed.specs.Reading.{separator?, Few, few?, judged, afterSeparator, afterWhole, reading}
+use Rattle.typed.specs.Reading.{separator?, Few, few?, Whole, whole?, judged, afterSeparator, afterWhole, reading}
 use Rattle.typed.specs.declared.Typed.the-variants.{Steps, Refused}
 
 form-answers : {text : List ℕ} → NotOfForm text → LengthAnswers text (Refused Limits.lengthForm)
@@ -50,18 +50,19 @@ module _ (text : List ℕ) where
   after = drop (length first) text
 
   -- what a reader finds of the form is the form
-  typed-as : (rest part : List ℕ) → after ≡ rest → Few Limits.wholeDigits first → Follows CommaOrPoint rest part → Digits part → length part ≤ Limits.partDigits
+  typed-as : (rest part : List ℕ) → after ≡ rest → Whole first → Follows CommaOrPoint rest part → Digits part → length part ≤ Limits.partDigits
       → TypedAs text first part
   typed-as rest part e few f ds most = record {
     decimal = record {
       wholeDigits = leading-digits text;
-      wholeSome = few .0;
+      wholeSome = few .0 .0;
       rest = rest;
       split = leading-split text ∙ ap (λ (l : List ℕ). first ++ l) e;
       follows = f;
       partDigits = ds;
     };
-    wholeFew = few .1;
+    wholeFew = few .0 .1;
+    wholePlain = few .1;
     partFew = most;
   }
 
@@ -69,7 +70,7 @@ module _ (text : List ℕ) where
   typed-follows : {whole part : List ℕ} (rest : List ℕ) → after ≡ rest → TypedAs text whole part → Follows CommaOrPoint rest part
   typed-follows {whole} {part} rest e a = subst (λ (l : List ℕ). Follows CommaOrPoint l part) e (rest-follows CommaOrPoint apart (a .decimal))
 
-  separator-answers : (c : ℕ) (t : List ℕ) → after ≡ c ∷ t → Few Limits.wholeDigits first → CommaOrPoint c → LengthAnswers text (afterSeparator (number first) t)
+  separator-answers : (c : ℕ) (t : List ℕ) → after ≡ c ∷ t → Whole first → CommaOrPoint c → LengthAnswers text (afterSeparator (number first) t)
   unfolding afterSeparator
   separator-answers c t e few s = go (both (digits? t) (few? Limits.partDigits t))
     where
@@ -83,7 +84,7 @@ module _ (text : List ℕ) where
           let f = typed-follows (c ∷ t) e a in
           n (part-is (f .1) (f .2) (a .decimal .partDigits) (a .partFew))
 
-  whole-answers : (rest : List ℕ) → after ≡ rest → Few Limits.wholeDigits first → LengthAnswers text (afterWhole (number first) rest)
+  whole-answers : (rest : List ℕ) → after ≡ rest → Whole first → LengthAnswers text (afterWhole (number first) rest)
   unfolding afterWhole
   whole-answers [] e few =
       judged-answers (number first * 100) (record { whole = first; part = []; typed = typed-as [] [] e few refl tt (omega arith); value = omega arith })
@@ -95,23 +96,23 @@ module _ (text : List ℕ) where
 
 pub reading-answers : (text : List ℕ) → LengthAnswers text (reading text)
 unfolding reading
-reading-answers text = go (few? Limits.wholeDigits (leading text))
+reading-answers text = go (whole? (leading text))
   where
-    go : (d : Dec (Few Limits.wholeDigits (leading text)))
+    go : (d : Dec (Whole (leading text)))
         → LengthAnswers text (ite d (afterWhole (number (leading text)) (drop (length (leading text)) text)) (Refused Limits.lengthForm))
     go (yes few) = whole-answers text (drop (length (leading text)) text) refl few
     go (no n) = form-answers λ whole part a.
         let e = whole-leading CommaOrPoint apart (a .decimal) in
-        n (subst (λ (l : List ℕ). Few Limits.wholeDigits l) (sym e) (a .decimal .wholeSome, a .wholeFew))
+        n (subst (λ (l : List ℕ). Whole l) (sym e) ((a .decimal .wholeSome, a .wholeFew), a .wholePlain))
 
 -- ---- the steps of the reading, each by what decides it
-pub form-refused : (text : List ℕ) → (Few Limits.wholeDigits (leading text) → ⊥) → Refused Limits.lengthForm ≡ reading text
+pub form-refused : (text : List ℕ) → (Whole (leading text) → ⊥) → Refused Limits.lengthForm ≡ reading text
 unfolding reading
-form-refused text n = sym (if-neg (few? Limits.wholeDigits (leading text)) n _ _)
+form-refused text n = sym (if-neg (whole? (leading text)) n _ _)
 
-pub form-taken : (text : List ℕ) → Few Limits.wholeDigits (leading text) → afterWhole (number (leading text)) (drop (length (leading text)) text) ≡ reading text
+pub form-taken : (text : List ℕ) → Whole (leading text) → afterWhole (number (leading text)) (drop (length (leading text)) text) ≡ reading text
 unfolding reading
-form-taken text few = sym (if-pos (few? Limits.wholeDigits (leading text)) few _ _)
+form-taken text few = sym (if-pos (whole? (leading text)) few _ _)
 
 pub whole-ends : (whole : ℕ) (text : List ℕ) (at : ℕ) → at ≡ length text → judged (whole * 100) ≡ afterWhole whole (drop at text)
 unfolding afterWhole

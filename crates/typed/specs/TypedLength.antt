@@ -1,10 +1,10 @@
--- Typed lengths, in the words of document 01, "Lengths that arrive as text or as floats".
+-- Typed lengths, in the words of document 01, "Lengths that arrive as text or as floats", as request W1 amends them.
 -- `Answers text r` is all that is promised of the answer r to the text.
 use Prim.Native.Nat.{ℕ, _≤_, _<_, _+_, _*_}
 use mathlib.Core.Path.{_≡_}
 use mathlib.Core.List.{List, [], _∷_}
 use mathlib.Core.Logic.{_⊎_}
-use lib.ListN.{length}
+use lib.ListN.{length, getD}
 use Rattle.limits.specs.Limits
 use Rattle.limits.specs.Lowest.{Refusal, Lowest, _when_}
 use Rattle.text_digits.specs.Decimal.{Decimal, valueIn}
@@ -15,11 +15,17 @@ use Rattle.typed.specs.declared.Typed.the-variants.{Steps, Refused}
 abbrev pub CommaOrPoint : ℕ → Type 0
 CommaOrPoint c = (c ≡ 44) ⊎ (c ≡ 46)
 
+-- request W1: "A typed length whose whole part has more than one digit must not start with 0; such text gets refusal 14."
+pub record NeedlessZero (whole : List ℕ) : Type 0 where
+  pub several : 1 < length whole
+  pub zero : getD whole 0 0 ≡ 48
+
 -- "A typed length is 1 to 4 digits, then nothing, or one comma or point and 1 or 2 digits. [..] Nothing else is allowed: no sign, space or
--- grouping."
+-- grouping." And, by W1, no needless zero
 pub record TypedAs (text whole part : List ℕ) : Type 0 where
   pub decimal : Decimal CommaOrPoint text whole part
   pub wholeFew : length whole ≤ Limits.wholeDigits
+  pub wholePlain : NeedlessZero whole → ⊥
   pub partFew : length part ≤ Limits.partDigits
 
 -- "The value in hundredths of a millimetre": the text is a typed length, and h is its value

@@ -3,8 +3,8 @@
 ghost use mathlib.Core.Path.{_≡_};
 ghost use mathlib.Core.Bool.{true};
 ghost use mathlib.Core.Logic.{_↔_};
-ghost use Prim.Native.Nat.{_≤_, _+_, _-_, _*_, _^_, min};
-ghost use lib.ListN.{length, drop};
+ghost use Prim.Native.Nat.{_≤_, _<_, _+_, _-_, _*_, _^_, min};
+ghost use lib.ListN.{length, getD, drop};
 ghost use Rattle.limits.specs.Limits;
 ghost use Rattle.text_digits.specs.Decimal.{Digit, number};
 ghost use Rattle.text_digits.specs.DecimalLaws.{leading};
@@ -48,7 +48,21 @@ pub fn typed_length(text: &[u8]) -> Typed
     if limits::WHOLE_DIGITS < n {
         return Typed::Refused(limits::LENGTH_FORM);
     }
+    if needless_zero(text, n) {
+        return Typed::Refused(limits::LENGTH_FORM);
+    }
     after_whole(text, n, whole.value)
+}
+
+// A whole part of n digits, more than one, that starts with 0: somebody may have meant 0,10 by 010 (request W1).
+fn needless_zero(text: &[u8], n: usize) -> bool
+    requires { ⌜ n ≤ length (now text) ⌝ }
+    ensures { λ r. ⌜ ((r ≡ true) ↔ ((1 < n) × (getD (now (text .entry)) 0 0 ≡ 48))) ⌝ }
+{
+    if n <= 1 {
+        return false;
+    }
+    text[0] == b'0'
 }
 
 // After the whole digits: nothing, or a separator.
