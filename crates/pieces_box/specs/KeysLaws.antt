@@ -1,0 +1,158 @@
+-- What is worked out of the boxes is the desk's: the ends of its pieces, and so the keys of its marks (`keyed-in`).
+-- Of shapes and places in order, everything that is asked of the boxes holds (`all-asked`).
+use Prim.Native.Nat.{ℕ, _≤_, _<_, _+_, _*_, _/_, _%_}
+use mathlib.Core.Path.{_≡_, refl, sym, ap, ap₂, _∙_, subst}
+use mathlib.Core.Bool.{Bool, true, false, cond, _&&_}
+use mathlib.Core.List.{List}
+use native.Mathlib.Omega.{arith}
+use lib.Dec.{eqb}
+use lib.IntN.{ℤ, pos, natAbs, _+ℤ_}
+use lib.Signed.{_≤ℤ_, ltZ}
+use lib.ListN.{length, getD, set, length-set}
+use lib.Seq.{getD-set-same, getD-set-other}
+use borrow.Author.Count.{below-more}
+use borrow.Author.Tests.{lt-ltb, eq-eqb, ne-eqb}
+use Rattle.limits.specs.Limits
+use Rattle.ints.specs.Bounds.{Within}
+use Rattle.ints.specs.Order.{≤ℤ-trans}
+use Rattle.turns.specs.Range.{placed-within}
+use Rattle.turns.specs.Turns.{along, signedAxis, turnedAt, placedAt}
+use Rattle.marks.specs.Marks.{axisOf, isMark, markValue}
+use Rattle.marks.specs.Keys.{keyFor, noKey, keyAt, Keyed}
+use Rattle.marks.specs.Order.{at-mark, at-none}
+use Rattle.pieces.specs.Pieces.{Store, Taken, takenIn, turnIn, PiecesInOrder, axesOf, takenAt, shapeAt, turnAt, offsetAt, countAt, countIn, lowAt, highAt, leastTo, greatestTo}
+use Rattle.pieces.specs.EndLaws.{least-bound, greatest-bound}
+use Rattle.pieces.specs.Placed.{least-within, greatest-within}
+use Rattle.pieces.specs.Store.{taken-of, ranged}
+use Rattle.pieces_box.specs.declared.boxes.Ends.{Ends}
+use Rattle.pieces_box.specs.declared.boxes.ShapeBox.{ShapeBox}
+use Rattle.pieces_box.specs.ShapeBox.{axisNumber, between, endsOn, onAxis, boxOf, boxHeld, endsIn, Boxed, NearEnds, NearBox, EndsAsked, AllAsked, keyIn, KeysIn}
+use Rattle.pieces_box.specs.TurnedLaws.{endsOf, ends-turned, corners-turned}
+
+module _ {d : Store} {boxes : List ℤ} (o : PiecesInOrder d) (b : Boxed (d .shapes) boxes) where
+  module _ {p : ℕ} (t : Taken (d .places) p) where
+    some : 1 ≤ countAt d p
+    some = let l = o .places .all p t .loaded .some in omega arith
+
+    shape< : shapeAt d p < Limits.shapes
+    shape< = o .places .all p t .loaded .shape
+
+    box-is : boxHeld boxes (d .places) p ≡ boxOf (d .shapes) (shapeAt d p)
+    box-is = b .is (shapeAt d p) shape< (o .shapes .few (shapeAt d p) shape<) (o .places .all p t .loaded .some)
+
+    -- no end is above the other
+    rising : (axis : ℕ) → endsOn (boxOf (d .shapes) (shapeAt d p)) axis .low ≤ℤ endsOn (boxOf (d .shapes) (shapeAt d p)) axis .high
+    rising axis = go (eqb axis 0) (eqb axis 1)
+      where
+        on : (a : ℕ) → leastTo (countAt d p) (onAxis (d .shapes) (shapeAt d p) a) ≤ℤ greatestTo (countAt d p) (onAxis (d .shapes) (shapeAt d p) a)
+        on a = let f = onAxis (d .shapes) (shapeAt d p) a in ≤ℤ-trans (least-bound f (countAt d p) 0 some) (greatest-bound f (countAt d p) 0 some)
+
+        go : (u v : Bool)
+            → cond u (boxOf (d .shapes) (shapeAt d p) .x) (cond v (boxOf (d .shapes) (shapeAt d p) .y) (boxOf (d .shapes) (shapeAt d p) .z)) .low
+            ≤ℤ cond u (boxOf (d .shapes) (shapeAt d p) .x) (cond v (boxOf (d .shapes) (shapeAt d p) .y) (boxOf (d .shapes) (shapeAt d p) .z)) .high
+        go true v = on 0
+        go false true = on 1
+        go false false = on 2
+
+    pub ends-in : (axis : ℕ) → endsIn boxes (d .places) axis p ≡ endsOf d axis p
+    unfolding placedAt turnedAt
+    ends-in axis =
+        let k = signedAxis (turnAt d p) axis in
+        let o = offsetAt d p axis in
+        ap (λ (c : ShapeBox). between (along k (c .x .low) (c .y .low) (c .z .low) +ℤ o) (along k (c .x .high) (c .y .high) (c .z .high) +ℤ o)) box-is
+        ∙ corners-turned (boxOf (d .shapes) (shapeAt d p)) k o (rising (axisNumber (natAbs k)))
+        ∙ sym (ends-turned d p axis some)
+
+    near-on : (axis : ℕ) → axis < 3
+        → NearEnds (record { low = leastTo (countAt d p) (onAxis (d .shapes) (shapeAt d p) axis); high = greatestTo (countAt d p) (onAxis (d .shapes) (shapeAt d p) axis) })
+    near-on axis h =
+        let w : (i : ℕ) → i < countAt d p → Within Limits.shapeReach (onAxis (d .shapes) (shapeAt d p) axis i) = λ i l. o .shapes .near (shapeAt d p) (3 * i + axis) shape< (omega arith) in
+        record { low = least-within (countAt d p) _ some w; high = greatest-within (countAt d p) _ some w }
+
+    pub asked : EndsAsked boxes (d .places) p
+    asked =
+        let q = o .places .all p t in
+        record {
+          place = t .place;
+          some = t .holds;
+          shape = q .shape;
+          turn = q .turn;
+          near = subst NearBox (sym box-is) (record { x = near-on 0 (omega arith); y = near-on 1 (omega arith); z = near-on 2 (omega arith) });
+          offset = q .offset;
+        }
+
+  pub all-asked : AllAsked boxes (d .places)
+  all-asked = record { all = λ p t. asked t }
+
+  -- ---- the keys
+  key-in : (axis mark : ℕ) → mark < Limits.axisMarks → keyIn boxes (d .places) axis mark ≡ keyAt (axisOf (axesOf d) axis) mark
+  key-in axis mark h = go (takenAt d (mark / 2)) refl
+    where
+      is-mark : (v : Bool) → takenAt d (mark / 2) ≡ v → isMark (axisOf (axesOf d) axis) mark ≡ v
+      is-mark v e = ap (λ (u : Bool). u && takenAt d (mark / 2)) (lt-ltb mark Limits.axisMarks h) ∙ e
+
+      value : (t : Taken (d .places) (mark / 2))
+          → cond (eqb (mark % 2) 0) (endsIn boxes (d .places) axis (mark / 2) .low) (endsIn boxes (d .places) axis (mark / 2) .high) ≡ markValue (axisOf (axesOf d) axis) mark
+      value t = ap (λ (e : Ends). cond (eqb (mark % 2) 0) (e .low) (e .high)) (ends-in t axis)
+
+      go : (v : Bool) → takenAt d (mark / 2) ≡ v → keyIn boxes (d .places) axis mark ≡ keyAt (axisOf (axesOf d) axis) mark
+      go true e =
+          ap (λ (v : Bool). cond v (keyFor (cond (eqb (mark % 2) 0) (endsIn boxes (d .places) axis (mark / 2) .low) (endsIn boxes (d .places) axis (mark / 2) .high)) mark) noKey) e
+          ∙ ap (λ (z : ℤ). keyFor z mark) (value (taken-of d (mark / 2) (omega arith) e))
+          ∙ sym (at-mark (axisOf (axesOf d) axis) mark (is-mark true e))
+      go false e =
+          ap (λ (v : Bool). cond v (keyFor (cond (eqb (mark % 2) 0) (endsIn boxes (d .places) axis (mark / 2) .low) (endsIn boxes (d .places) axis (mark / 2) .high)) mark) noKey) e
+          ∙ sym (at-none (axisOf (axesOf d) axis) mark (is-mark false e))
+
+  pub keyed-in : {axis : ℕ} {keys : List ℕ} → axis < 3 → KeysIn boxes (d .places) axis keys → Keyed (axisOf (axesOf d) axis) keys
+  keyed-in {axis} h k = record { ranged = ranged o axis h; is = λ mark l. k .is mark l ∙ key-in axis mark l }
+
+-- ---- the keys of a place's two marks
+module _ (boxes places : List ℤ) (axis : ℕ) where
+  pub key-none : (mark : ℕ) → takenIn places (mark / 2) ≡ false → noKey ≡ keyIn boxes places axis mark
+  key-none mark e =
+      sym (ap (λ (v : Bool). cond v (keyFor (cond (eqb (mark % 2) 0) (endsIn boxes places axis (mark / 2) .low) (endsIn boxes places axis (mark / 2) .high)) mark) noKey) e)
+
+  key-side : (p mark : ℕ) (b : Bool) → mark / 2 ≡ p → eqb (mark % 2) 0 ≡ b → takenIn places p ≡ true
+      → keyFor (cond b (endsIn boxes places axis p .low) (endsIn boxes places axis p .high)) mark ≡ keyIn boxes places axis mark
+  key-side p mark b q r e =
+      sym
+      (ap (λ (n : ℕ). cond (takenIn places n) (keyFor (cond (eqb (mark % 2) 0) (endsIn boxes places axis n .low) (endsIn boxes places axis n .high)) mark) noKey) q
+      ∙ ap (λ (v : Bool). cond v (keyFor (cond (eqb (mark % 2) 0) (endsIn boxes places axis p .low) (endsIn boxes places axis p .high)) mark) noKey) e
+      ∙ ap (λ (v : Bool). keyFor (cond v (endsIn boxes places axis p .low) (endsIn boxes places axis p .high)) mark) r)
+
+  pub key-low : (p : ℕ) → takenIn places p ≡ true → keyFor (endsIn boxes places axis p .low) (2 * p) ≡ keyIn boxes places axis (2 * p)
+  key-low p e = key-side p (2 * p) true (omega arith) (eq-eqb ((2 * p) % 2) 0 (omega arith)) e
+
+  pub key-high : (p : ℕ) → takenIn places p ≡ true → keyFor (endsIn boxes places axis p .high) (2 * p + 1) ≡ keyIn boxes places axis (2 * p + 1)
+  key-high p e = key-side p (2 * p + 1) false (omega arith) (ne-eqb ((2 * p + 1) % 2) 0 (λ z. omega arith)) e
+
+  -- the ends are those of two placed corners, so they are near
+  pub placed-ends : {p : ℕ} → EndsAsked boxes places p → axis < 3
+      → Within Limits.placedReach (endsIn boxes places axis p .low) × Within Limits.placedReach (endsIn boxes places axis p .high)
+  placed-ends {p} a h =
+      either-way
+      (placed-within (natAbs (turnIn places p)) axis (a .near .x .low) (a .near .y .low) (a .near .z .low) (a .offset axis h))
+      (placed-within (natAbs (turnIn places p)) axis (a .near .x .high) (a .near .y .high) (a .near .z .high) (a .offset axis h))
+    where
+      either-way : {u v : ℤ} → Within Limits.placedReach u → Within Limits.placedReach v → Within Limits.placedReach (between u v .low) × Within Limits.placedReach (between u v .high)
+      either-way {u} {v} wu wv = go (ltZ u v)
+        where
+          go : (t : Bool) → let e : Ends = cond t (record { low = u; high = v }) (record { low = v; high = u }) in Within Limits.placedReach (e .low) × Within Limits.placedReach (e .high)
+          go true = (wu, wv)
+          go false = (wv, wu)
+
+-- two keys more of the list
+pub keys-two : (f : ℕ → ℕ) (keys : List ℕ) (p : ℕ) {a b : ℕ} → 2 * p + 1 < length keys → ((k : ℕ) → k < 2 * p → getD keys k 0 ≡ f k) → a ≡ f (2 * p) → b ≡ f (2 * p + 1)
+    → (k : ℕ) → k < 2 * (p + 1) → getD (set (set keys (2 * p) a) (2 * p + 1) b) k 0 ≡ f k
+keys-two f keys p {a} {b} l h ea eb k m =
+    below-more (λ j. getD (set (set keys (2 * p) a) (2 * p + 1) b) j 0 ≡ f j) (2 * p + 1)
+    (λ j n. getD-set-other (set keys (2 * p) a) (2 * p + 1) j b 0 (λ q. omega arith) ∙ first j n)
+    (getD-set-same (set keys (2 * p) a) (2 * p + 1) b 0 (omega (arith, length-set keys (2 * p) a)) ∙ eb)
+    k
+    (omega arith)
+  where
+    first : (j : ℕ) → j < 2 * p + 1 → getD (set keys (2 * p) a) j 0 ≡ f j
+    first = below-more (λ j. getD (set keys (2 * p) a) j 0 ≡ f j) (2 * p)
+        (λ j n. getD-set-other keys (2 * p) j a 0 (λ q. omega arith) ∙ h j n)
+        (getD-set-same keys (2 * p) a 0 (omega arith) ∙ ea)

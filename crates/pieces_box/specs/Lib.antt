@@ -1,0 +1,5 @@
+pub mod ShapeBox
+pub mod EndsLaws
+pub mod TurnedLaws
+pub mod ShapeLaws
+pub mod KeysLaws
