@@ -55,7 +55,7 @@ noRow = 255
 abbrev pub noMark : ℕ
 noMark = 65535
 
--- a row's verdict: "0 boxes apart", 1 separate, 2 touching, 3 penetrating
+-- "Each pair of taken places has a verdict: 0 apart by boxes, 1 separate, 2 touching, 3 penetrating."
 abbrev pub apart : ℕ
 apart = 0
 

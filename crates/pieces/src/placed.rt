@@ -26,7 +26,7 @@ pub struct Pose {
     pub turn: usize,
 }
 
-fn lesser(a: i32, b: i32) -> i32
+pub fn lesser(a: i32, b: i32) -> i32
     ensures { λ r. ⌜ r ≡ lesser a b ⌝ }
 {
     if a < b {
@@ -35,7 +35,7 @@ fn lesser(a: i32, b: i32) -> i32
     b
 }
 
-fn greater(a: i32, b: i32) -> i32
+pub fn greater(a: i32, b: i32) -> i32
     ensures { λ r. ⌜ r ≡ greater a b ⌝ }
 {
     if b < a {

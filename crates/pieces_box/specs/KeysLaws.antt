@@ -24,7 +24,7 @@ use Rattle.pieces.specs.Pieces.{Store, Taken, takenIn, turnIn, PiecesInOrder, a
 use Rattle.pieces.specs.EndLaws.{least-bound, greatest-bound}
 use Rattle.pieces.specs.Placed.{least-within, greatest-within}
 use Rattle.pieces.specs.Store.{taken-of, ranged}
-use Rattle.pieces_box.specs.declared.boxes.Ends.{Ends}
+use Rattle.pieces.specs.declared.placed.Ends.{Ends}
 use Rattle.pieces_box.specs.declared.boxes.ShapeBox.{ShapeBox}
 use Rattle.pieces_box.specs.ShapeBox.{axisNumber, between, endsOn, onAxis, boxOf, boxHeld, endsIn, Boxed, NearEnds, NearBox, EndsAsked, AllAsked, keyIn, KeysIn}
 use Rattle.pieces_box.specs.TurnedLaws.{endsOf, ends-turned, corners-turned}

@@ -14,7 +14,7 @@ use Rattle.ints.specs.Bounds.{Within}
 use Rattle.turns.specs.Turns.{placedAt}
 use Rattle.marks.specs.Keys.{keyFor, noKey}
 use Rattle.pieces.specs.Pieces.{Taken, takenIn, countIn, heldIn, turnIn, lesser, greater, leastTo, greatestTo}
-use Rattle.pieces_box.specs.declared.boxes.Ends.{Ends}
+use Rattle.pieces.specs.declared.placed.Ends.{Ends}
 use Rattle.pieces_box.specs.declared.boxes.ShapeBox.{ShapeBox}
 
 -- number `axis` of corner i of a shape

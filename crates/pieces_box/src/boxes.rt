@@ -5,16 +5,13 @@ ghost use Prim.Native.Nat.{_<_, _≤_, _*_};
 ghost use lib.ListN.{length};
 ghost use lib.Seq.{sets};
 ghost use Rattle.limits.specs.Limits;
-ghost use Rattle.pieces.specs.Pieces.{lesser, greater};
 ghost use Rattle.pieces_box.specs.ShapeBox.{boxTo, boxFrom, stretched, widened, boxCells, boxList, boxIn, BoxAt, Boxed};
 use pieces::index::index_of;
+use pieces::placed::Ends;
+use pieces::placed::greater;
+use pieces::placed::lesser;
 
-// The least and the greatest number on one axis.
-pub struct Ends {
-    pub low: i32,
-    pub high: i32,
-}
-
+// The ends on each axis.
 pub struct ShapeBox {
     pub x: Ends,
     pub y: Ends,
@@ -32,24 +29,6 @@ const NO_BOX: ShapeBox = ShapeBox {
     y: Ends { low: 0, high: 0 },
     z: Ends { low: 0, high: 0 },
 };
-
-fn lesser(a: i32, b: i32) -> i32
-    ensures { λ r. ⌜ r ≡ lesser a b ⌝ }
-{
-    if a < b {
-        return a;
-    }
-    b
-}
-
-fn greater(a: i32, b: i32) -> i32
-    ensures { λ r. ⌜ r ≡ greater a b ⌝ }
-{
-    if b < a {
-        return a;
-    }
-    b
-}
 
 // The ends with one number more.
 fn stretched(e: Ends, v: i32) -> Ends

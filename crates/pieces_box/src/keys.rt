@@ -6,11 +6,11 @@ ghost use lib.ListN.{length};
 ghost use Rattle.limits.specs.Limits;
 ghost use Rattle.pieces_box.specs.ShapeBox.{between, endsIn, EndsAsked, AllAsked, keyIn, KeysIn};
 use crate::boxes::BOXES;
-use crate::boxes::Ends;
 use crate::boxes::box_in;
 use marks::NO_KEY;
 use marks::mark_key;
 use pieces::index::index_of;
+use pieces::placed::Ends;
 use pieces::taking::is_taken;
 use turns::placed_axis;
 

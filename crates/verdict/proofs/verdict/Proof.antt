@@ -1,11 +1,10 @@
+-- `verdict::verdict`: the strict walk from the frame's portal; where it meets, what follows decides.
 use borrow.Author.Needs.{needs}
 use mathlib.Core.Path.{refl}
 use Rattle.space.specs.Ranges.{upto-le}
 use Rattle.verdict.specs.Judged.{ground, frame-corners, begun-strict, strict, separate-by, carries-separate, carries-is, answer-eq}
 use Rattle.verdict.proofs.verdict.Statement.{statement}
 use Rattle.verdict.proofs.verdict.Tie as tie
-
--- `verdict::verdict`: the strict walk from the frame's portal; where it meets, what follows decides.
 
 frame-of-requires : tie.Need-frame-of-requires
 frame-of-requires c κs = search needs

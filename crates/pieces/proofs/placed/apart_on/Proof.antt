@@ -1,3 +1,4 @@
+-- `pieces::placed::apart_on`: two tests of ends.
 use borrow.Author.Needs.{needs}
 use mathlib.Core.Path.{ap₂}
 use lib.Signed.{ltZ}
@@ -11,8 +12,6 @@ use Rattle.pieces.specs.Store.{low-within, high-within}
 use Rattle.pieces.specs.BoxLaws.{apart-first, apart-second}
 use Rattle.pieces.proofs.placed.apart_on.Statement.{statement}
 use Rattle.pieces.proofs.placed.apart_on.Tie as tie
-
--- `pieces::placed::apart_on`: two tests of ends.
 
 piece-ends-requires : tie.Need-piece-ends-requires
 piece-ends-requires c κs = search needs

@@ -1,3 +1,4 @@
+-- `pieces::placed::boxes_apart`: no axis before `axis` parts the two.
 use borrow.Author.Count.{below-more}
 use borrow.Author.Needs.{needs}
 use mathlib.Core.Path.{refl}
@@ -8,8 +9,6 @@ use Rattle.pieces.specs.Pieces.{storeOf}
 use Rattle.pieces.specs.Boxes.{ApartOn}
 use Rattle.pieces.proofs.placed.boxes_apart.Statement.{statement}
 use Rattle.pieces.proofs.placed.boxes_apart.Tie as tie
-
--- `pieces::placed::boxes_apart`: no axis before `axis` parts the two.
 
 abbrev Inv-loop : tie.InvT-loop
 Inv-loop shapes places p q axis₀ axis = (axis ≤ 3) × ((k : ℕ) → k < axis → ApartOn (storeOf shapes places) p q k → ⊥)

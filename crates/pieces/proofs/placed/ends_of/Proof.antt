@@ -1,3 +1,4 @@
+-- `pieces::placed::ends_of`: `low` and `high` are the ends of the corners before `i`.
 use Rattle.pieces.specs.Placed.{numberAt, number-within, least-within, greatest-within, least-bits, greatest-bits}
 use borrow.Author.Needs.{needs}
 use mathlib.Core.Path.{_≡_, ap, _∙_}
@@ -11,8 +12,6 @@ use Rattle.ints.specs.Bounds.{Within, worth, k-back, k-bits, k-is, k-within}
 use Rattle.pieces.specs.Pieces.{leastTo, greatestTo}
 use Rattle.pieces.proofs.placed.ends_of.Statement.{statement}
 use Rattle.pieces.proofs.placed.ends_of.Tie as tie
-
--- `pieces::placed::ends_of`: `low` and `high` are the ends of the corners before `i`.
 
 abbrev Inv-loop : tie.InvT-loop
 Inv-loop shapes places pose place axis n first low₀ high₀ i₀ low high i =

@@ -1,3 +1,4 @@
+-- `pieces::placed::placed_number`: three corner numbers and an offset, each near, turned and moved.
 use borrow.Author.Needs.{needs}
 use mathlib.Core.Path.{sym, _∙_, subst}
 use Prim.Native.Nat.{_+_, _*_}
@@ -8,8 +9,6 @@ use Rattle.ints.specs.Bounds.{Within, element, worth, k-back, k-within}
 use Rattle.pieces.specs.Placed.{numberAt, placed-eq}
 use Rattle.pieces.proofs.placed.placed_number.Statement.{statement}
 use Rattle.pieces.proofs.placed.placed_number.Tie as tie
-
--- `pieces::placed::placed_number`: three corner numbers and an offset, each near, turned and moved.
 
 mul-x : tie.Need-mul-x
 mul-x c = search needs

@@ -1,3 +1,4 @@
+-- `rows_right::row::put_rows`: the rows with every place before `other` are right.
 use borrow.Author.Needs.{needs}
 use mathlib.Core.Path.{_≡_, subst}
 use Prim.Native.Nat.{_≤_, _-_}
@@ -9,8 +10,6 @@ use Rattle.pieces.specs.Pieces.{storeOf}
 use Rattle.rows_right.specs.Right.{RowRight}
 use Rattle.rows_right.proofs.row.put_rows.Statement.{statement}
 use Rattle.rows_right.proofs.row.put_rows.Tie as tie
-
--- `rows_right::row::put_rows`: the rows with every place before `other` are right.
 
 abbrev Inv-loop : tie.InvT-loop
 Inv-loop shapes places rows₀ place other₀ rows other = (other ≤ Limits.places) × Handled (RowRight (storeOf shapes places)) places place other rows₀ rows

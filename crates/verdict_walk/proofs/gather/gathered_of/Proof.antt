@@ -1,3 +1,4 @@
+-- `verdict_walk::gathered_of`: four pushes, each with a determinant for its weight.
 use borrow.Author.Needs.{needs}
 use mathlib.Core.Path.{refl, ap}
 use lib.IntN.{pos, _-ℤ_}
@@ -7,8 +8,6 @@ use Rattle.ints.specs.Bounds.{fits, k-is, k-within, k-sub, k-lit-pos, k-back}
 use Rattle.verdict_walk.specs.GatherLaws.{room-none, room-more, room-le, pushed-as, weight-within, minus-within, weight-is, weight-fits}
 use Rattle.verdict_walk.proofs.gather.gathered_of.Statement.{statement}
 use Rattle.verdict_walk.proofs.gather.gathered_of.Tie as tie
-
--- `verdict_walk::gathered_of`: four pushes, each with a determinant for its weight.
 
 nothing-yet-requires : tie.Need-nothing-yet-requires
 nothing-yet-requires c κs = search needs
