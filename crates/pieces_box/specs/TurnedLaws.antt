@@ -77,22 +77,14 @@ ends-turned d p axis h =
     ∙ ap (λ (e : Ends). movedBy e o) (ends-along (d .shapes) (shapeAt d p) (countAt d p) (signedAxis (turnAt d p) axis) h)
 
 -- ---- two opposite corners of a box, turned and moved, have the ends of the turned box
-module _ (b : ShapeBox) where
-  low-named : (m : ℕ) → namedAxis m (b .x .low) (b .y .low) (b .z .low) ≡ endsOn b (axisNumber m) .low
-  low-named m = go (eqb m 1) (eqb m 2)
-    where
-      go : (u v : Bool) → cond u (b .x .low) (cond v (b .y .low) (b .z .low)) ≡ endsOn b (cond u 0 (cond v 1 2)) .low
-      go true v = refl
-      go false true = refl
-      go false false = refl
-
-  high-named : (m : ℕ) → namedAxis m (b .x .high) (b .y .high) (b .z .high) ≡ endsOn b (axisNumber m) .high
-  high-named m = go (eqb m 1) (eqb m 2)
-    where
-      go : (u v : Bool) → cond u (b .x .high) (cond v (b .y .high) (b .z .high)) ≡ endsOn b (cond u 0 (cond v 1 2)) .high
-      go true v = refl
-      go false true = refl
-      go false false = refl
+-- what is read of the ends on a named axis is read of each, and named then
+named-of : (f : Ends → ℤ) (b : ShapeBox) (m : ℕ) → namedAxis m (f (b .x)) (f (b .y)) (f (b .z)) ≡ f (endsOn b (axisNumber m))
+named-of f b m = go (eqb m 1) (eqb m 2)
+  where
+    go : (u v : Bool) → cond u (f (b .x)) (cond v (f (b .y)) (f (b .z))) ≡ f (endsOn b (cond u 0 (cond v 1 2)))
+    go true v = refl
+    go false true = refl
+    go false false = refl
 
 between-up : {u v : ℤ} → u ≤ℤ v → between u v ≡ lowHigh u v
 between-up {u} {v} h = go (ltZ u v) refl
@@ -111,7 +103,7 @@ between-down {u} {v} h = go (ltZ u v) refl
 pub corners-turned : (b : ShapeBox) (k o : ℤ) → endsOn b (axisNumber (natAbs k)) .low ≤ℤ endsOn b (axisNumber (natAbs k)) .high
     → between (along k (b .x .low) (b .y .low) (b .z .low) +ℤ o) (along k (b .x .high) (b .y .high) (b .z .high) +ℤ o) ≡ movedBy (endsAlong b k) o
 corners-turned b k o h = ap₂ (λ (u v : ℤ). between (cond (ltZ k (pos 0)) (negℤ u) u +ℤ o) (cond (ltZ k (pos 0)) (negℤ v) v +ℤ o))
-    (low-named b (natAbs k)) (high-named b (natAbs k))
+    (named-of (λ e. e .low) b (natAbs k)) (named-of (λ e. e .high) b (natAbs k))
     ∙ go (ltZ k (pos 0))
   where
     go : (t : Bool)
