@@ -1,5 +1,5 @@
 -- A piece that may be put down can be: of any desk in order there is the desk after it, once the right rows are given.
--- Its marks are the old ones with those of the place taken out and put in by their keys; its tallies are counted.
+-- Its marks are put in one after the other by their keys; its tallies are counted.
 use mathlib.Core.Path.{_≡_, refl, sym, ap, _∙_, subst}
 use mathlib.Core.List.{List, _∷_, _++_}
 use mathlib.Core.Logic.{inl, inr}
@@ -13,23 +13,24 @@ use Rattle.limits.specs.Limits
 use Rattle.rows.specs.Rows.{Verdict, PairOf, Names, Handled}
 use Rattle.rows_tally.specs.Tallies.{BookInOrder}
 use Rattle.rows_tally.specs.Counting.{zero-at}
-use Rattle.marks.specs.Marks.{Axes, axisOf, InPlace, InPlaceMarks, RangedMarks, OthersStayMarks, partX, partY, partZ}
+use Rattle.marks.specs.Marks.{Axes, axisOf, InPlace, InPlaceMarks, RangedMarks}
 use Rattle.marks.specs.Keys.{keyAt}
-use Rattle.marks.specs.Order.{fine}
-use Rattle.marks.specs.Sorted.{reordered, stays-sorted}
-use Rattle.marks.specs.Cells.{in-place, sorted, stay}
-use Rattle.marks.specs.Buffer.{on-axis}
+use Rattle.marks.specs.Sorted.{inOrder}
+use Rattle.marks.specs.Cells.{there-in-place}
 use Rattle.pieces.specs.declared.placement.Placement.{Placement}
 use Rattle.pieces.specs.Pieces.{Sized, Taken, axesOf}
 use Rattle.pieces.specs.Store.{ranged}
 use Rattle.desk_state.specs.Desk.{Desk, putAt}
 use Rattle.rows_right.specs.Right.{RowRight}
-use Rattle.desk_put.specs.Handled.{Renewed, MayPut, PutDown}
+use Rattle.desk_put.specs.Handled.{MayPut, PutDown}
 use Rattle.desk_put.specs.HandledLaws.{put-piece, put-down}
 
 -- ---- the marks
-abbrev marksAfter : Axes → ℕ → List ℕ → List ℕ
-marksAfter a p marks = reordered (keyAt (axisOf a 0)) p (partX marks) ++ (reordered (keyAt (axisOf a 1)) p (partY marks) ++ reordered (keyAt (axisOf a 2)) p (partZ marks))
+abbrev partAfter : Axes → ℕ → List ℕ
+partAfter a axis = inOrder (keyAt (axisOf a axis)) Limits.axisMarks
+
+abbrev marksAfter : Axes → List ℕ
+marksAfter a = partAfter a 0 ++ (partAfter a 1 ++ partAfter a 2)
 
 three-parts : {a : Axes} {x y z : List ℕ} → InPlace (axisOf a 0) x → InPlace (axisOf a 1) y → InPlace (axisOf a 2) z → InPlaceMarks a (x ++ (y ++ z))
 three-parts {a} {x} {y} {z} p q r =
@@ -43,22 +44,9 @@ three-parts {a} {x} {y} {z} p q r =
       on-z = subst (InPlace (axisOf a 2)) (sym (ap (take Limits.axisMarks) last ∙ take-all Limits.axisMarks z (omega (arith, r .long)))) r;
     }
 
-part-after : (old new : Axes) (p axis : ℕ) (part : List ℕ) → p < Limits.places → axis < 3 → RangedMarks old → RangedMarks new → OthersStayMarks p old new → InPlace (axisOf old axis) part
-    → InPlace (axisOf new axis) (reordered (keyAt (axisOf new axis)) p part)
-part-after old new p axis part h l ro rn o k =
-    let a = axisOf old axis in
-    let b = axisOf new axis in
-    let was = sorted a (ro axis l) part k in
-    in-place b (rn axis l) (reordered (keyAt b) p part) (stays-sorted (keyAt a) (keyAt b) part p h (fine a (ro axis l)) (fine b (rn axis l)) (stay a b p (on-axis p axis old new l o)) was)
-
-renewed-marks : (new : Axes) (p : ℕ) (marks : List ℕ) → p < Limits.places → RangedMarks new → Renewed new p marks (marksAfter new p marks)
-renewed-marks new p marks h rn = record {
-  stays = λ old ro o m.
-      three-parts
-      (part-after old new p 0 (partX marks) h (omega arith) ro rn o (m .on-x))
-      (part-after old new p 1 (partY marks) h (omega arith) ro rn o (m .on-y))
-      (part-after old new p 2 (partZ marks) h (omega arith) ro rn o (m .on-z));
-}
+marks-after : (a : Axes) → RangedMarks a → InPlaceMarks a (marksAfter a)
+marks-after a r =
+    three-parts (there-in-place (axisOf a 0) (r 0 (omega arith))) (there-in-place (axisOf a 1) (r 1 (omega arith))) (there-in-place (axisOf a 2) (r 2 (omega arith)))
 
 -- ---- the tallies
 abbrev bookOf : List ℕ → List ℕ
@@ -100,8 +88,8 @@ handled-all {places = places} {p} {n} l below d = record {
 
 -- ---- the desk after a piece is put down
 abbrev pub deskAfter : Desk → ℕ → Placement → List ℕ → Desk
-deskAfter d p q rows = record { store = putAt (d .store) p q; rows = rows; book = bookOf rows; marks = marksAfter (axesOf (putAt (d .store) p q)) p (d .marks) }
+deskAfter d p q rows = record { store = putAt (d .store) p q; rows = rows; book = bookOf rows; marks = marksAfter (axesOf (putAt (d .store) p q)) }
 
 pub can-put : {d : Desk} {p : ℕ} {q : Placement} {rows : List ℕ} → Sized (d .store) → MayPut d p q
     → Handled (RowRight (putAt (d .store) p q)) (putAt (d .store) p q .places) p Limits.places (d .rows) rows → PutDown d p q (deskAfter d p q rows)
-can-put {d} {p} {q} {rows} size m h = put-down size m refl h (book-of rows) (renewed-marks (axesOf (putAt (d .store) p q)) p (d .marks) (m .place) (ranged (put-piece size m refl .order)))
+can-put {d} {p} {q} {rows} size m h = put-down size m refl (marks-after (axesOf (putAt (d .store) p q)) (ranged (put-piece size m refl .order))) h (book-of rows)

@@ -10,9 +10,11 @@ use desk_refusals::asked::empty_refusal;
 use desk_refusals::asked::placement_refusal;
 use desk_refusals::asked::shape_refusal;
 use desk_refusals::asked::taken_refusal;
-use desk_state::desk_in_order;
+use desk_state::desk_tested;
 use pieces::index::index_of;
 use pieces::placement::Placement;
+use pieces_box::boxes::boxes_of;
+use pieces_box::keys::no_keys;
 
 // Refused, or the piece stands there with its rows, and tallies and marks follow.
 pub fn place(
@@ -28,7 +30,21 @@ pub fn place(
         (deskOf (now (shapes .entry)) (now (places .entry)) (now (rows .entry)) (now (book .entry)) (now (marks .entry))) place q
         (deskOf (now (shapes .entry)) (now (places .exit)) (now (rows .exit)) (now (book .exit)) (now (marks .exit))) r ⌝ }
 {
-    if !desk_in_order(shapes, places, rows, book, marks) {
+    let boxes = boxes_of(shapes);
+    let mut x = no_keys();
+    let mut y = no_keys();
+    let mut z = no_keys();
+    if !desk_tested(
+        shapes,
+        places,
+        rows,
+        book,
+        marks,
+        &boxes,
+        &mut x,
+        &mut y,
+        &mut z,
+    ) {
         return Outcome::Refused(limits::DISORDER);
     }
     let number = place_refusal(shapes, places, place, q);
@@ -36,7 +52,19 @@ pub fn place(
         return Outcome::Refused(number);
     }
     let p = index_of(place, limits::PLACES);
-    put_place(shapes, places, rows, book, marks, p, q);
+    put_place(
+        shapes,
+        places,
+        rows,
+        book,
+        marks,
+        &boxes,
+        &mut x,
+        &mut y,
+        &mut z,
+        p,
+        q,
+    );
     Outcome::Done(0)
 }
 
@@ -73,7 +101,21 @@ pub fn remove(
         (deskOf (now (shapes .entry)) (now (places .entry)) (now (rows .entry)) (now (book .entry)) (now (marks .entry))) place
         (deskOf (now (shapes .entry)) (now (places .exit)) (now (rows .exit)) (now (book .exit)) (now (marks .exit))) r ⌝ }
 {
-    if !desk_in_order(shapes, places, rows, book, marks) {
+    let boxes = boxes_of(shapes);
+    let mut x = no_keys();
+    let mut y = no_keys();
+    let mut z = no_keys();
+    if !desk_tested(
+        shapes,
+        places,
+        rows,
+        book,
+        marks,
+        &boxes,
+        &mut x,
+        &mut y,
+        &mut z,
+    ) {
         return Outcome::Refused(limits::DISORDER);
     }
     let number = taken_refusal(places, place);
@@ -81,6 +123,17 @@ pub fn remove(
         return Outcome::Refused(number);
     }
     let p = index_of(place, limits::PLACES);
-    empty_place(shapes, places, rows, book, marks, p);
+    empty_place(
+        shapes,
+        places,
+        rows,
+        book,
+        marks,
+        &boxes,
+        &mut x,
+        &mut y,
+        &mut z,
+        p,
+    );
     Outcome::Done(0)
 }

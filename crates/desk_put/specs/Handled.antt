@@ -3,19 +3,27 @@
 use mathlib.Core.Path.{_≡_}
 use mathlib.Core.List.{List}
 use Prim.Native.Nat.{ℕ, _<_}
-use lib.IntN.{natAbs}
+use lib.IntN.{ℤ, natAbs}
 use Rattle.limits.specs.Limits
 use Rattle.limits.specs.Numbered.{Numbered}
 use Rattle.rows.specs.Rows.{Handled, Cleared}
-use Rattle.marks.specs.Marks.{Axes, RangedMarks, OthersStayMarks, InPlaceMarks}
+use Rattle.marks.specs.Marks.{lowMark, highMark}
+use Rattle.marks.specs.Promises.{ReorderedMarks}
+use Rattle.marks.specs.declared.MarkKeys.{MarkKeys}
+use Rattle.pieces_box.specs.ShapeBox.{keyIn}
 use Rattle.pieces.specs.declared.placement.Placement.{Placement}
 use Rattle.pieces.specs.Pieces.{Taken, Loaded}
 use Rattle.desk_state.specs.Desk.{Desk, InOrder, OffsetFits, putAt, emptiedAt}
 use Rattle.rows_right.specs.Right.{RowRight}
 
--- from marks in place for any pieces that agree but for one place, to marks in place for the pieces as they are now
-pub record Renewed (new : Axes) (place : ℕ) (before after : List ℕ) : Type 0 where
-  pub stays : (old : Axes) → RangedMarks old → OthersStayMarks place old new → InPlaceMarks old before → InPlaceMarks new after
+-- the keys of a place's marks as the boxes and the placements give them
+abbrev pub keysFor : List ℤ → List ℤ → ℕ → ℕ → MarkKeys
+keysFor boxes places axis place = record { low = keyIn boxes places axis (lowMark place); high = keyIn boxes places axis (highMark place) }
+
+-- the keys of a place's marks are new on each axis, and its marks stand by them
+abbrev pub RenewedIn : List ℤ → List ℤ → ℕ → List ℕ → List ℕ → List ℕ → List ℕ → List ℕ → List ℕ → List ℕ → List ℕ → Type 0
+RenewedIn boxes places place x y z x′ y′ z′ before after =
+    ReorderedMarks place (keysFor boxes places 0 place) (keysFor boxes places 1 place) (keysFor boxes places 2 place) x y z x′ y′ z′ before after
 
 -- "a removal takes its rows away; every other row stays", "or empties the place it names; every other shape and place stays"
 pub record Emptied (before : Desk) (p : ℕ) (after : Desk) : Type 0 where

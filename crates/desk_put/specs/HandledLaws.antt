@@ -8,38 +8,44 @@ use Rattle.limits.specs.Limits
 use Rattle.rows.specs.Rows.{Handled, Cleared}
 use Rattle.rows_tally.specs.Tallies.{BookInOrder}
 use Rattle.rows.specs.Handling.{rows-after-clearing, rows-after-handling}
-use Rattle.marks.specs.Marks.{Axes, OthersStayMarks}
+use Rattle.marks.specs.Marks.{OthersStayMarks, InPlaceMarks}
 use Rattle.marks.specs.Keys.{KeyedMarks}
-use Rattle.marks.specs.Promises.{ReorderedMarks}
 use Rattle.pieces.specs.Boxes.{PlacedPiece}
 use Rattle.pieces.specs.declared.placement.Placement.{Placement}
-use Rattle.pieces.specs.Pieces.{Store, storeOf, Sized, Taken, OthersStay, PiecesInOrder, axesOf, putIn}
-use Rattle.pieces.specs.Store.{ranged}
+use Rattle.pieces.specs.Pieces.{Store, storeOf, Sized, Taken, OthersStay, PiecesInOrder, axesOf, putIn, emptiedIn}
+use Rattle.pieces_box.specs.ShapeBox.{AllAsked}
+use Rattle.pieces_box.specs.KeysLaws.{all-asked}
 use Rattle.desk_state.specs.Desk.{Desk, InOrder, putAt, emptiedAt}
+use Rattle.desk_state.specs.Worked.{Worked}
 use Rattle.rows_right.specs.Right.{RowRight}
 use Rattle.desk_put.specs.PutLaws.{put-others, put-others-marks, put-taken, put-order, empty-others, empty-others-marks, empty-gone, empty-order}
 use Rattle.rows_right.specs.RowLaws.{right-verdict}
-use Rattle.desk_put.specs.Handled.{Renewed, Emptied, MayPut, PutDown}
-
-pub renewed : {new : Axes} {x y z before after : List ℕ} {place : ℕ} → KeyedMarks new x y z → ReorderedMarks x y z place before after → Renewed new place before after
-renewed {new} k q = record { stays = λ old r o m. q .stays old new r k o m }
+use Rattle.desk_put.specs.Handled.{RenewedIn, Emptied, MayPut, PutDown}
+use Rattle.desk_put.specs.RenewLaws.{renewed-keys, renewed-marks}
 
 pub emptied-at : {d after : Desk} {p q : ℕ} → p ≡ q → Emptied d p after → Emptied d q after
 emptied-at {d} {after} e h = subst (λ (p : ℕ). Emptied d p after) e h
 
-pub emptied : (d : Desk) (p : ℕ) {rows book marks : List ℕ} → Sized (d .store) → p < Limits.places → InOrder d → Cleared p (d .rows) rows → BookInOrder rows book
-    → Renewed (axesOf (emptiedAt (d .store) p)) p (d .marks) marks
-    → Emptied d p (record { store = emptiedAt (d .store) p; rows = rows; book = book; marks = marks })
-emptied d p size h o c b m = record {
-  store = refl;
-  rows = c;
-  order = record {
-    pieces = empty-order (d .store) p size h (o .pieces);
-    marks = m .stays (axesOf (d .store)) (ranged (o .pieces)) (empty-others-marks (d .store) p) (o .marks);
-    rows = rows-after-clearing (empty-others (d .store) p) (empty-gone (d .store) p size h) c (o .rows);
-    book = b;
-  };
-}
+-- the place emptied: what is left is worked out of the same boxes, and the keys of the others stay
+module _ {d : Desk} {p : ℕ} {boxes : List ℤ} {x y z : List ℕ} (size : Sized (d .store)) (h : p < Limits.places) (o : InOrder d) (w : Worked (d .store) boxes x y z) where
+  left-order : PiecesInOrder (emptiedAt (d .store) p)
+  left-order = empty-order (d .store) p size h (o .pieces)
+
+  pub left-asked : AllAsked boxes (emptiedIn (d .store .places) p)
+  left-asked = all-asked left-order (w .boxed)
+
+  pub emptied : {x′ y′ z′ rows book marks : List ℕ} → RenewedIn boxes (emptiedIn (d .store .places) p) p x y z x′ y′ z′ (d .marks) marks → Cleared p (d .rows) rows → BookInOrder rows book
+      → Emptied d p (record { store = emptiedAt (d .store) p; rows = rows; book = book; marks = marks })
+  emptied m c b = record {
+    store = refl;
+    rows = c;
+    order = record {
+      pieces = left-order;
+      marks = renewed-marks w refl left-order h (empty-others-marks (d .store) p) m (o .marks);
+      rows = rows-after-clearing (empty-others (d .store) p) (empty-gone (d .store) p size h) c (o .rows);
+      book = b;
+    };
+  }
 
 module _ {d : Desk} {p : ℕ} {q : Placement} {places : List ℤ} (size : Sized (d .store)) (m : MayPut d p q) (e : places ≡ putIn (d .store .places) p q) where
   -- the store as it stands once the placement is written
@@ -56,19 +62,32 @@ module _ {d : Desk} {p : ℕ} {q : Placement} {places : List ℤ} (size : Sized 
     taken = subst (λ (k : Store). Taken (k .places) p) stored-is (put-taken (d .store) p q size (m .place) (m .shape));
   }
 
-  pub put-down : {rows book marks : List ℕ} → Handled (RowRight stored) (stored .places) p Limits.places (d .rows) rows → BookInOrder rows book → Renewed (axesOf stored) p (d .marks) marks
+  put-stays : OthersStayMarks p (axesOf (d .store)) (axesOf stored)
+  put-stays = subst (λ (k : Store). OthersStayMarks p (axesOf (d .store)) (axesOf k)) stored-is (put-others-marks (d .store) p q)
+
+  pub put-down : {rows book marks : List ℕ} → InPlaceMarks (axesOf stored) marks → Handled (RowRight stored) (stored .places) p Limits.places (d .rows) rows → BookInOrder rows book
       → PutDown d p q (record { store = stored; rows = rows; book = book; marks = marks })
-  put-down h b n = record {
+  put-down n h b = record {
     store = sym stored-is;
     taken = put-piece .taken;
     rows = h;
     order = record {
       pieces = put-piece .order;
-      marks =
-          n .stays (axesOf (d .store)) (ranged (m .order .pieces)) (subst (λ (k : Store). OthersStayMarks p (axesOf (d .store)) (axesOf k)) stored-is (put-others-marks (d .store) p q))
-          (m .order .marks);
+      marks = n;
       rows =
           rows-after-handling (right-verdict stored) (subst (λ (k : Store). OthersStay p (d .store .places) (k .places)) stored-is (put-others (d .store) p q)) (put-piece .taken) h (m .order .rows);
       book = b;
     };
   }
+
+  -- by what the command has worked out: the same boxes, and the keys of the others
+  module _ {boxes : List ℤ} {x y z : List ℕ} (w : Worked (d .store) boxes x y z) where
+    pub put-asked : AllAsked boxes places
+    put-asked = all-asked (put-piece .order) (w .boxed)
+
+    module _ {x′ y′ z′ marks : List ℕ} (r : RenewedIn boxes places p x y z x′ y′ z′ (d .marks) marks) where
+      pub put-keys : KeyedMarks (axesOf stored) x′ y′ z′
+      put-keys = renewed-keys w refl (put-piece .order) (m .place) put-stays r
+
+      pub put-marks : InPlaceMarks (axesOf stored) marks
+      put-marks = renewed-marks w refl (put-piece .order) (m .place) put-stays r (m .order .marks)

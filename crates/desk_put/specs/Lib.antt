@@ -1,3 +1,4 @@
 pub mod Handled
+pub mod RenewLaws
 pub mod HandledLaws
 pub mod PutLaws

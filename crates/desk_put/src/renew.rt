@@ -1,25 +1,30 @@
-// The marks of a handled piece: out of the buffer, and in again by their new keys if the place is taken.
-// Each axis's part of the buffer is lent on to be reordered.
+// The marks of a handled piece: their keys worked out anew, and each mark slid to where its new key belongs.
+// A place that is no longer taken has no keys, and its marks go.
 ghost use mathlib.Core.Path.{_≡_};
 ghost use Prim.Native.Nat.{_<_};
 ghost use lib.ListN.{length};
 ghost use Rattle.limits.specs.Limits;
-ghost use Rattle.pieces.specs.Pieces.{storeOf, axesOf, PiecesInOrder};
-ghost use Rattle.desk_put.specs.Handled.{Renewed};
+ghost use Rattle.pieces_box.specs.ShapeBox.{AllAsked};
+ghost use Rattle.desk_put.specs.Handled.{RenewedIn};
 use marks_keep::reorder_marks;
-use pieces::keys::keys_of;
+use pieces_box::boxes::BOXES;
+use pieces_box::keys::keys_at;
 
 pub(crate) fn renew_marks(
-    shapes: &[i32; limits::SHAPES_LENGTH],
     places: &[i32; limits::PLACES_LENGTH],
     marks: &mut [u16],
+    boxes: &[i32; BOXES],
+    x: &mut [u32; limits::AXIS_MARKS],
+    y: &mut [u32; limits::AXIS_MARKS],
+    z: &mut [u32; limits::AXIS_MARKS],
     place: usize,
 )
-    requires { ⌜ PiecesInOrder (storeOf (now shapes) (now places)) × (length (now marks) ≡ Limits.marks) × (place < Limits.places) ⌝ }
-    ensures { λ _. ⌜ Renewed (axesOf (storeOf (now (shapes .entry)) (now (places .entry)))) place (now (marks .entry)) (now (marks .exit)) ⌝ }
+    requires { ⌜ AllAsked (now boxes) (now places) × (length (now marks) ≡ Limits.marks) × (place < Limits.places) ⌝ }
+    ensures { λ _. ⌜ RenewedIn (now (boxes .entry)) (now (places .entry)) place
+        (now (x .entry)) (now (y .entry)) (now (z .entry)) (now (x .exit)) (now (y .exit)) (now (z .exit)) (now (marks .entry)) (now (marks .exit)) ⌝ }
 {
-    let x = keys_of(shapes, places, 0);
-    let y = keys_of(shapes, places, 1);
-    let z = keys_of(shapes, places, 2);
-    reorder_marks(marks, &x, &y, &z, place);
+    let new_x = keys_at(boxes, places, place, 0);
+    let new_y = keys_at(boxes, places, place, 1);
+    let new_z = keys_at(boxes, places, place, 2);
+    reorder_marks(marks, x, y, z, place, new_x, new_y, new_z);
 }

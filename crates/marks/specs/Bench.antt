@@ -3,16 +3,11 @@
 use mathlib.Core.Path.{_≡_, refl}
 use mathlib.Core.Bool.{cond, xor}
 use mathlib.Core.List.{List, [], _∷_}
-use Prim.Native.Nat.{ℕ}
 use lib.Dec.{eqb, ltb}
 use lib.IntN.{ℤ, pos, _+ℤ_}
-use lib.ListN.{getD, replicate}
-use Rattle.limits.specs.Limits
-use Rattle.marks.specs.Marks.{Axes, axisOf, earlier, changed, changedMarks}
+use lib.ListN.{getD}
+use Rattle.marks.specs.Marks.{Axes, earlier, changed, changedMarks}
 use Rattle.ints.specs.Counts.{sumTo}
-use Rattle.marks.specs.Keys.{keyAt}
-use Rattle.marks.specs.Rising.{pass, keep}
-use Rattle.marks.specs.Sorted.{cleared, reordered}
 
 -- boxes of 64 steps at these offsets along x
 abbrev pub boxes : List ℤ → Axes
@@ -31,11 +26,3 @@ after = boxes (pos 0 ∷ pos 64 ∷ pos 128 ∷ [])
 pub count-is : changedMarks before after 2 ≡ 3
 unfolding changed sumTo earlier xor
 count-is = refl
-
--- low 0, low 2, low 1 before high 0 (they share the value 64), high 2, high 1
-abbrev pub part-before : List ℕ
-part-before = 0 ∷ 4 ∷ 2 ∷ 1 ∷ 5 ∷ 3 ∷ replicate 122 Limits.noMark
-
-pub after-is : reordered (keyAt (axisOf after 0)) 2 part-before ≡ 0 ∷ 2 ∷ 1 ∷ 4 ∷ 3 ∷ 5 ∷ replicate 122 Limits.noMark
-unfolding reordered cleared pass keep keyAt
-after-is = refl

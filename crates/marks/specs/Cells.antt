@@ -1,23 +1,22 @@
 -- A part in place, cell by cell, is a part that is sorted by its axis's keys; so two parts in place are one.
--- And one handled place keeps the part in place.
-use mathlib.Core.Path.{_≡_, refl, ap, sym, _∙_, subst}
+-- And there is a part in place for all places and values.
+use mathlib.Core.Path.{_≡_, refl, ap, sym, _∙_}
 use mathlib.Core.Logic.{_⊎_, inl, inr}
 use mathlib.Core.List.{List}
-use mathlib.Core.Bool.{Bool, true, false, cond, _&&_, false≢true}
+use mathlib.Core.Bool.{Bool, true, false, _&&_, false≢true}
 use Prim.Native.Nat.{ℕ, _≤_, _<_}
 use native.Mathlib.Omega.{arith}
 use borrow.Author.Tests.{lt-ltb, ltb-true}
-use lib.Dec.{eqb, ltb}
-use lib.IntN.{ℤ}
+use lib.Dec.{ltb}
 use lib.ListN.{length, getD, replicate, length-replicate}
 use Rattle.limits.specs.Limits
-use Rattle.marks.specs.Marks.{Axis, markPlace, sideOf, markValue, isMark, earlier, InPlace, Ranged, OthersStayOn}
+use Rattle.marks.specs.Marks.{Axis, markPlace, isMark, earlier, InPlace, Ranged}
 use Rattle.ints.specs.Counts.{oneIf, countOf, hit, and-false, oneIf≤, count-pos, count-fill, find, find-two, twice}
 use Rattle.ints.specs.Order.{lt-or-ge}
-use Rattle.marks.specs.Keys.{noKey, keyFor, keyAt, Keyed, keyOf}
+use Rattle.marks.specs.Keys.{keyAt}
 use Rattle.marks.specs.Rising.{up-at, up-from, up-none, fill-up}
-use Rattle.marks.specs.Sorted.{Sorted, keyed, top-key, member, only, reordered, stays-sorted}
-use Rattle.marks.specs.Order.{mark-low, no-mark, at-none, small-at, keyed-is, fine, key-decides, keys-are}
+use Rattle.marks.specs.Sorted.{Sorted, own-key, keyed, top-key, member, only, inOrder, sorted-is}
+use Rattle.marks.specs.Order.{mark-low, small-at, keyed-is, fine, key-decides}
 
 module _ (a : Axis) (r : Ranged a) (xs : List ℕ) where
   abbrev e : ℕ → ℕ
@@ -55,7 +54,7 @@ module _ (a : Axis) (r : Ranged a) (xs : List ℕ) where
           let lt = strict (keyAt a (getD xs i 0)) (keyAt a (getD xs j 0)) up
           (λ k. omega (
             arith,
-            twice xs i j l (omega (arith, m, s .long)) (fine a r .own (getD xs i 0) (getD xs j 0) (small-at a r (getD xs i 0) mi) k),
+            twice xs i j l (omega (arith, m, s .long)) (own-key (keyAt a) (fine a r) (getD xs i 0) (getD xs j 0) (small-at a r (getD xs i 0) mi) k),
             s .once (getD xs j 0) n,
             oneIf≤
                 (keyed (keyAt a) (getD xs j 0)),
@@ -119,34 +118,6 @@ none-in-place a h = in-place a (λ m k. absurd (false≢true (sym (none m) ∙ k
     ranged : Ranged a
     ranged m k = absurd (false≢true (sym (none m) ∙ k))
 
--- a mark of a place that stays keeps its key
-key-stays : (old new : Axis) (q : ℕ) → old .taken (markPlace q) ≡ new .taken (markPlace q)
-    → (old .taken (markPlace q) ≡ true → (old .low (markPlace q) ≡ new .low (markPlace q)) × (old .high (markPlace q) ≡ new .high (markPlace q))) → keyAt old q ≡ keyAt new q
-unfolding keyAt
-key-stays old new q t v = each (old .taken (markPlace q)) refl
-  where
-    marks-same : isMark old q ≡ isMark new q
-    marks-same = ap (λ (b : Bool). ltb q Limits.axisMarks && b) t
-
-    key-same : (old .low (markPlace q) ≡ new .low (markPlace q)) × (old .high (markPlace q) ≡ new .high (markPlace q)) → keyFor (markValue old q) q ≡ keyFor (markValue new q) q
-    key-same h = ap (λ (v : ℤ). keyFor v q) (ap (λ (l : ℤ). cond (eqb (sideOf q) 0) l (old .high (markPlace q))) (h .0) ∙ ap (λ (l : ℤ). cond (eqb (sideOf q) 0) (new .low (markPlace q)) l) (h .1))
-
-    each : (b : Bool) → old .taken (markPlace q) ≡ b → keyAt old q ≡ keyAt new q
-    each true h = ap (λ (b : Bool). cond b (keyFor (markValue old q) q) noKey) marks-same ∙ ap (λ (k : ℕ). cond (isMark new q) k noKey) (key-same (v h))
-    each false h =
-        let none : isMark old q ≡ false = ap (λ (b : Bool). ltb q Limits.axisMarks && b) h ∙ and-false (ltb q Limits.axisMarks) in
-        at-none old q none ∙ sym (at-none new q (sym marks-same ∙ none))
-
-pub stay : (old new : Axis) (place : ℕ) → OthersStayOn place old new → (q : ℕ) → (markPlace q ≡ place → ⊥) → keyAt old q ≡ keyAt new q
-stay old new place o q n =
-    elim (lt-or-ge q Limits.axisMarks) [
-      | inl l ↦ key-stays old new q (o .taken (markPlace q) (omega arith) n) (λ h. (o .low (markPlace q) (omega arith) n h, o .high (markPlace q) (omega arith) n h))
-      | inr l ↦ at-none old q (no-mark old q l) ∙ sym (at-none new q (no-mark new q l))
-    ]
-
--- a place, a move or a removal keeps the part in place
-pub stays-in-place : (old new : Axis) (keys : List ℕ) (place : ℕ) (xs : List ℕ) → place < Limits.places → Ranged old → Keyed new keys → OthersStayOn place old new → InPlace old xs
-    → InPlace new (reordered (keyOf keys) place xs)
-stays-in-place old new keys place xs l ro k o p =
-    subst (λ (e : ℕ → ℕ). InPlace new (reordered e place xs)) (sym (keys-are new keys k))
-    (in-place new (k .ranged) (reordered (keyAt new) place xs) (stays-sorted (keyAt old) (keyAt new) xs place l (fine old ro) (fine new (k .ranged)) (stay old new place o) (sorted old ro xs p)))
+-- there is a part in place
+pub there-in-place : (a : Axis) → Ranged a → InPlace a (inOrder (keyAt a) Limits.axisMarks)
+there-in-place a r = in-place a r (inOrder (keyAt a) Limits.axisMarks) (sorted-is (keyAt a) (fine a r))

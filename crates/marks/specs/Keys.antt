@@ -3,12 +3,13 @@
 use mathlib.Core.Path.{_≡_}
 use mathlib.Core.List.{List}
 use mathlib.Core.Bool.{cond}
-use Prim.Native.Nat.{ℕ, _+_, _*_, _<_}
+use Prim.Native.Nat.{ℕ, _+_, _*_, _/_, _%_, _<_}
 use lib.Dec.{ltb}
 use lib.IntN.{ℤ, pos, natAbs, _+ℤ_}
-use lib.ListN.{getD}
+use lib.ListN.{getD, set}
 use Rattle.limits.specs.Limits
-use Rattle.marks.specs.Marks.{Axis, Axes, axisOf, markPlace, sideOf, markValue, isMark, Ranged}
+use Rattle.marks.specs.declared.MarkKeys.{MarkKeys}
+use Rattle.marks.specs.Marks.{Axis, Axes, axisOf, lowMark, highMark, markPlace, sideOf, markValue, isMark, Ranged}
 
 abbrev pub noKey : ℕ
 noKey = 4294967295
@@ -19,6 +20,10 @@ raised value = natAbs (value +ℤ pos Limits.placedReach)
 
 abbrev pub keyFor : ℤ → ℕ → ℕ
 keyFor value mark = (raised value * 2 + sideOf mark) * Limits.places + markPlace mark
+
+-- the mark that a key names
+abbrev pub markIn : ℕ → ℕ
+markIn key = 2 * (key % Limits.places) + key / Limits.places % 2
 
 unfoldable pub keyAt : Axis → ℕ → ℕ
 keyAt a mark = cond (isMark a mark) (keyFor (markValue a mark) mark) noKey
@@ -36,3 +41,10 @@ pub record KeyedMarks (a : Axes) (x y z : List ℕ) : Type 0 where
 -- the key that the list has for a number of a part
 abbrev pub keyOf : List ℕ → ℕ → ℕ
 keyOf keys q = cond (ltb q Limits.axisMarks) (getD keys q 0) noKey
+
+-- the keys of a place's two marks, and a list of keys in which they are new
+abbrev pub keysAt : List ℕ → ℕ → MarkKeys
+keysAt keys place = record { low = getD keys (lowMark place) 0; high = getD keys (highMark place) 0 }
+
+abbrev pub keysPut : List ℕ → ℕ → MarkKeys → List ℕ
+keysPut keys place k = set (set keys (highMark place) (k .high)) (lowMark place) (k .low)

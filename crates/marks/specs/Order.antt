@@ -1,4 +1,4 @@
--- The key decides document 01's order: of two marks the earlier has the smaller key, and no two marks have one key.
+-- The key decides document 01's order: of two marks the earlier has the smaller key, and a key names its mark.
 -- So an axis's keys are fine, and a list of keys that is the axis's can stand for it.
 use mathlib.Core.Path.{_≡_, refl, ap, sym, _∙_, subst}
 use mathlib.Core.Logic.{inl, inr}
@@ -15,7 +15,7 @@ use Rattle.limits.specs.Limits
 use Rattle.ints.specs.Bounds.{Within, natAbs-add}
 use Rattle.ints.specs.Order.{subℕ-ge, trichotomy, lt→≤ℤ, lt-or-ge}
 use Rattle.marks.specs.Marks.{Axis, markPlace, sideOf, markValue, isMark, earlier, Ranged}
-use Rattle.marks.specs.Keys.{noKey, raised, keyFor, keyAt, Keyed, keyOf}
+use Rattle.marks.specs.Keys.{noKey, raised, keyFor, markIn, keyAt, Keyed, keyOf}
 use Rattle.ints.specs.Counts.{and-true}
 use Rattle.marks.specs.Sorted.{Fine, keyed}
 
@@ -70,10 +70,11 @@ side x y p q l m k =
       | inr a ↦ elim (lt-or-ge y x) [ inl b ↦ absurd (omega arith) | inr b ↦ omega arith ]
     ]
 
-key-own : (v w : ℤ) (m n : ℕ) → m < Limits.axisMarks → n < Limits.axisMarks → keyFor v m ≡ keyFor w n → m ≡ n
-key-own v w m n lm ln k =
-    let e = split (raised v * 2 + m % 2) (raised w * 2 + n % 2) (m / 2) (n / 2) (omega arith) (omega arith) k in
-    let s = side (raised v) (raised w) (m % 2) (n % 2) (omega arith) (omega arith) (e .0) in
+key-own : (v : ℤ) (m : ℕ) → m < Limits.axisMarks → markIn (keyFor v m) ≡ m
+key-own v m l =
+    let k = keyFor v m in
+    let e = split (raised v * 2 + sideOf m) (k / Limits.places) (markPlace m) (k % Limits.places) (omega arith) (omega arith) (omega arith) in
+    let s = side (raised v) (k / Limits.places / 2) (sideOf m) (k / Limits.places % 2) (omega arith) (omega arith) (omega (arith, e .0)) in
     omega (arith, e .1, s)
 
 -- value, then low before high, then smaller place: the smaller key
@@ -148,11 +149,8 @@ module _ (a : Axis) (r : Ranged a) where
           each true h = omega (arith, small-at q h)
           each false h = omega (arith, at-none a q h)
 
-      own : (m n : ℕ) → keyAt a m < noKey → keyAt a m ≡ keyAt a n → m ≡ n
-      own m n l e =
-          let hm = marked m l in
-          let hn = marked n (omega arith) in
-          key-own (markValue a m) (markValue a n) m n (mark-low a m hm .0) (mark-low a n hn .0) (sym (at-mark a m hm) ∙ e ∙ at-mark a n hn)
+      own : (m : ℕ) → keyAt a m < noKey → markIn (keyAt a m) ≡ m
+      own m l = let h = marked m l in ap markIn (at-mark a m h) ∙ key-own (markValue a m) m (mark-low a m h .0)
 
   -- of two marks the earlier has the smaller key
   pub key-decides : (m n : ℕ) → isMark a m ≡ true → isMark a n ≡ true → earlier a m n ≡ ltb (keyAt a m) (keyAt a n)

@@ -1,23 +1,26 @@
 -- What the functions that keep the marks promise, for any contents of what they are lent.
--- Each first pins its result by a list function or a sum over keys, and then says what that means in document 01's words.
+-- Each says what its result means in document 01's words; a count is also pinned by a sum over keys.
 use mathlib.Core.Path.{_≡_}
-use mathlib.Core.List.{List, _++_}
+use mathlib.Core.List.{List}
 use mathlib.Core.Bool.{true}
 use Prim.Native.Nat.{ℕ, _+_, _-_, _*_, _≤_}
 use Rattle.limits.specs.Limits
-use Rattle.marks.specs.Marks.{Axis, Axes, InPlace, InPlaceMarks, partX, partY, partZ, Ranged, RangedMarks, OthersStayOn, OthersStayMarks, changed, changedMarks}
-use Rattle.marks.specs.Keys.{Keyed, KeyedMarks, keyOf}
-use Rattle.marks.specs.Sorted.{reordered}
+use Rattle.marks.specs.Marks.{Axis, Axes, InPlace, InPlaceMarks, OthersStayOn, OthersStayMarks, changed, changedMarks}
+use Rattle.marks.specs.declared.MarkKeys.{MarkKeys}
+use Rattle.marks.specs.Keys.{Keyed, KeyedMarks, keysPut}
 use Rattle.marks.specs.Changed.{changedKeys}
 
--- the marks of a place go out, and in again by their new keys if it is taken: a place, a move and a removal keep the part, and the buffer, in place
-pub record Reordered (keys : List ℕ) (place : ℕ) (before after : List ℕ) : Type 0 where
-  pub is : after ≡ reordered (keyOf keys) place before
-  pub stays : (old new : Axis) → Ranged old → Keyed new keys → OthersStayOn place old new → InPlace old before → InPlace new after
+-- the two keys of a place are new, and its marks stand by them: a place, a move and a removal keep the part, and the buffer, in place;
+-- one in place is the only one that is (Cells `one-part`, Buffer `one-buffer`), so nothing else can be left there
+pub record Reordered (place : ℕ) (k : MarkKeys) (keys keys′ before after : List ℕ) : Type 0 where
+  pub put : keys′ ≡ keysPut keys place k
+  pub stays : (old new : Axis) → Keyed old keys → Keyed new keys′ → InPlace old before → InPlace new after
 
-pub record ReorderedMarks (x y z : List ℕ) (place : ℕ) (before after : List ℕ) : Type 0 where
-  pub is : after ≡ reordered (keyOf x) place (partX before) ++ (reordered (keyOf y) place (partY before) ++ reordered (keyOf z) place (partZ before))
-  pub stays : (old new : Axes) → RangedMarks old → KeyedMarks new x y z → OthersStayMarks place old new → InPlaceMarks old before → InPlaceMarks new after
+pub record ReorderedMarks (place : ℕ) (kx ky kz : MarkKeys) (x y z x′ y′ z′ before after : List ℕ) : Type 0 where
+  pub put-x : x′ ≡ keysPut x place kx
+  pub put-y : y′ ≡ keysPut y place ky
+  pub put-z : z′ ≡ keysPut z place kz
+  pub stays : (old new : Axes) → KeyedMarks old x y z → KeyedMarks new x′ y′ z′ → InPlaceMarks old before → InPlaceMarks new after
 
 -- a move's count on one axis, and over the three
 pub record Counted (old new : List ℕ) (place count : ℕ) : Type 0 where

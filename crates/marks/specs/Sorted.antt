@@ -1,25 +1,27 @@
--- A part as counts and rising keys: the form in which taking marks out and putting them in is proved.
--- The keys are any function that is fine: no mark has more than noKey, what is no mark has noKey, and no two marks have one key.
+-- A part as counts and rising keys: the form in which a part is kept in place; such a part is there for all keys, and it is the only one.
+-- The keys are any function that is fine: no mark has more than noKey, what is no mark has noKey, and a key names its mark.
 use mathlib.Core.Path.{_≡_, refl, ap, sym, _∙_, subst}
 use mathlib.Core.Logic.{inl, inr}
-use mathlib.Core.List.{List, _++_}
-use mathlib.Core.Bool.{Bool, true, false, cond, _&&_, _||_, not, false≢true}
-use Prim.Native.Nat.{ℕ, _+_, _-_, _≤_, _<_}
+use mathlib.Core.List.{List, []}
+use mathlib.Core.Bool.{Bool, true, false, cond}
+use Prim.Native.Nat.{ℕ, zero, suc, _+_, _≤_, _<_}
 use native.Mathlib.Omega.{arith}
-use borrow.Author.Tests.{eq-eqb, ne-eqb, lt-ltb, le-ltb, ltb-true}
+use borrow.Author.Tests.{ne-eqb, lt-ltb, le-ltb, ltb-true}
 use lib.Dec.{eqb, ltb}
-use lib.ListN.{length, replicate, length-append, length-replicate}
+use lib.ListN.{length}
 use Rattle.limits.specs.Limits
-use Rattle.marks.specs.Marks.{markPlace, lowMark, highMark}
-use Rattle.ints.specs.Counts.{oneIf, sumTo, countOf, hit, hit-self, and-true, and-false, oneIf≤, oneIf-true, count-append, count-fill, sum-same, sum-count, sum-miss}
+use Rattle.ints.specs.Counts.{oneIf, sumTo, countOf, hit, hit-self, oneIf≤, oneIf-true, sum-same, sum-count, sum-miss}
 use Rattle.ints.specs.Order.{lt-or-ge}
-use Rattle.marks.specs.Keys.{noKey}
-use Rattle.marks.specs.Rising.{rises, pass, last, keep, same, up-same, pass-long, pass-top, pass-up, pass-count, last-max, keep-up, fill-up, keep-count, keep-long}
+use Rattle.marks.specs.Keys.{noKey, markIn}
+use Rattle.marks.specs.Rising.{rises, into, same, up-none, into-up, into-count, into-long}
 
 pub record Fine (e : ℕ → ℕ) : Type 0 where
   pub most : (q : ℕ) → e q ≤ noKey
   pub far : (q : ℕ) → Limits.axisMarks ≤ q → e q ≡ noKey
-  pub own : (a b : ℕ) → e a < noKey → e a ≡ e b → a ≡ b
+  pub own : (q : ℕ) → e q < noKey → markIn (e q) ≡ q
+
+pub own-key : (e : ℕ → ℕ) → Fine e → (a b : ℕ) → e a < noKey → e a ≡ e b → a ≡ b
+own-key e f a b l k = sym (f .own a l) ∙ ap markIn k ∙ f .own b (omega arith)
 
 -- q has a key of its own
 abbrev pub keyed : (ℕ → ℕ) → ℕ → Bool
@@ -36,9 +38,6 @@ keyed-low e f q h = elim (lt-or-ge q Limits.axisMarks) [ inl l ↦ l | inr l ↦
 
 pub top-key : (e : ℕ → ℕ) → Fine e → e Limits.noMark ≡ noKey
 top-key e f = f .far Limits.noMark (omega arith)
-
-top : (e : ℕ → ℕ) → Fine e → (v : ℕ) → e v ≤ e Limits.noMark
-top e f v = omega (arith, f .most v, top-key e f)
 
 low≢ : (q : ℕ) → q < Limits.axisMarks → q ≡ Limits.noMark → ⊥
 low≢ q h p = omega arith
@@ -61,22 +60,8 @@ module _ (e : ℕ → ℕ) (mine : ℕ → Bool) (xs : List ℕ) (s : Sorted e m
     counted = sym (s .long) ∙ sum-count Limits.axisMarks Limits.noMark xs (omega arith) beyond
 
     -- a number that is not mine leaves room for one
-    room : (c : ℕ) → c < Limits.axisMarks → mine c ≡ false → 1 ≤ countOf Limits.noMark xs
+    pub room : (c : ℕ) → c < Limits.axisMarks → mine c ≡ false → 1 ≤ countOf Limits.noMark xs
     room c l h = omega (arith, counted, sum-miss Limits.axisMarks c (λ q. countOf q xs) l (s .once c (low≢ c l) ∙ ap oneIf h) (λ q b. omega (arith, s .once q (low≢ q b), oneIf≤ (mine q))))
-
--- only which numbers are mine matters, and only their keys
-pub retaken : (e : ℕ → ℕ) (mine mine′ : ℕ → Bool) (xs : List ℕ) → ((q : ℕ) → (q ≡ Limits.noMark → ⊥) → mine q ≡ mine′ q) → Sorted e mine xs → Sorted e mine′ xs
-retaken e mine mine′ xs h s = record { long = s .long; once = λ q n. s .once q n ∙ ap oneIf (h q n); rising = s .rising }
-
-pub rekeyed : (e e′ : ℕ → ℕ) (mine : ℕ → Bool) (xs : List ℕ) → Fine e → Fine e′ → ((q : ℕ) → mine q ≡ true → e q ≡ e′ q) → Sorted e mine xs → Sorted e′ mine xs
-rekeyed e e′ mine xs f f′ h s = record { long = s .long; once = s .once; rising = up-same e e′ 0 xs each (s .rising) }
-  where
-    each : (v : ℕ) → 1 ≤ countOf v xs → e v ≡ e′ v
-    each v p =
-        elim (hit v Limits.noMark) [
-          | inl y ↦ ap e (y .0) ∙ top-key e f ∙ sym (top-key e′ f′) ∙ ap e′ (sym (y .0))
-          | inr n ↦ h v (member e mine xs s v (n .0) p)
-        ]
 
 -- such a part is the only one
 pub only : (e : ℕ → ℕ) (xs ys : List ℕ) → Fine e → Sorted e (keyed e) xs → Sorted e (keyed e) ys → xs ≡ ys
@@ -98,196 +83,79 @@ only e xs ys f s t = same e xs ys 0 0 (s .rising) (t .rising) counts one
     one : (a b : ℕ) → 1 ≤ countOf a xs → 1 ≤ countOf b xs → e a ≡ e b → a ≡ b
     one a b ha hb k =
         elim (hit a Limits.noMark) [
-          | inr y ↦ f .own a b (small a (y .0) ha) k
+          | inr y ↦ own-key e f a b (small a (y .0) ha) k
           | inl y ↦
               elim (hit b Limits.noMark) [
                 | inl z ↦ y .0 ∙ sym (z .0)
-                | inr z ↦ sym (f .own b a (small b (z .0) hb) (sym k))
+                | inr z ↦ sym (own-key e f b a (small b (z .0) hb) (sym k))
               ]
         ]
 
--- the marks of a place go out
-abbrev pub notOf : ℕ → ℕ → Bool
-notOf place q = not (eqb (markPlace q) place)
+-- a mark where it has a key, and noMark where it has none
+abbrev pub standing : Bool → ℕ → ℕ
+standing b c = cond b c Limits.noMark
 
-unfoldable pub cleared : ℕ → List ℕ → List ℕ
-cleared place xs = keep (notOf place) xs ++ replicate (length xs - length (keep (notOf place) xs)) Limits.noMark
+pub own-standing : (c : ℕ) → c < Limits.axisMarks → (b : Bool) → oneIf (eqb (standing b c) c) ≡ oneIf b
+own-standing c l true = hit-self c
+own-standing c l false = ap oneIf (ne-eqb Limits.noMark c (λ p. omega arith))
 
-pub removed : (e : ℕ → ℕ) (mine : ℕ → Bool) (xs : List ℕ) (place : ℕ) → Fine e → Sorted e mine xs → Sorted e (λ q. mine q && notOf place q) (cleared place xs)
-unfolding cleared
-removed e mine xs place f s =
-    record {
-      long =
-          omega (
-            arith,
-            length-append (keep (notOf place) xs) (replicate (length xs - length (keep (notOf place) xs)) Limits.noMark),
-            length-replicate {A = ℕ}
-                (length xs - length (keep (notOf place) xs)) Limits.noMark,
-            keep-long (notOf place) xs,
-            s .long,
-          );
-      once = counts;
-      rising = fill-up e 0 Limits.noMark (length xs - length (keep (notOf place) xs)) (keep (notOf place) xs) (top e f) (omega arith) (keep-up e (notOf place) 0 xs (s .rising));
-    }
-  where
-    both : (a b : Bool) → cond b (oneIf a) 0 ≡ oneIf (a && b)
-    both true true = refl
-    both true false = refl
-    both false true = refl
-    both false false = refl
+pub other-standing : (c : ℕ) (b : Bool) (q : ℕ) → (q ≡ c → ⊥) → (q ≡ Limits.noMark → ⊥) → oneIf (eqb (standing b c) q) ≡ 0
+other-standing c true q n m = ap oneIf (ne-eqb c q (λ p. n (sym p)))
+other-standing c false q n m = ap oneIf (ne-eqb Limits.noMark q (λ p. m (sym p)))
 
-    counts : (q : ℕ) → (q ≡ Limits.noMark → ⊥) → countOf q (keep (notOf place) xs ++ replicate (length xs - length (keep (notOf place) xs)) Limits.noMark) ≡ oneIf (mine q && notOf place q)
-    counts q n =
-        let a = count-append q (keep (notOf place) xs) (replicate (length xs - length (keep (notOf place) xs)) Limits.noMark) in
-        let b = count-fill q Limits.noMark (length xs - length (keep (notOf place) xs)) n in
-        omega (arith, a, b, keep-count (notOf place) q xs, ap (λ (k : ℕ). cond (notOf place q) k 0) (s .once q n), both (mine q) (notOf place q))
+-- the marks below n, put in one after the other
+unfoldable pub inOrder : (ℕ → ℕ) → ℕ → List ℕ
+inOrder e zero = []
+inOrder e (suc n) = into e (standing (keyed e n) n) (inOrder e n)
 
--- one mark goes in by its key, or stays out where it has none
-module _ (e : ℕ → ℕ) (mine : ℕ → Bool) (xs : List ℕ) (c : ℕ) (f : Fine e) (s : Sorted e mine xs) (small : (q : ℕ) → mine q ≡ true → e q < noKey) (l : c < Limits.axisMarks) (h : mine c ≡ false) where
-  below : (q : ℕ) → mine q ≡ true → q < Limits.axisMarks
-  below q m = keyed-low e f q (lt-ltb (e q) noKey (small q m))
+-- there is always a part that is sorted
+module _ (e : ℕ → ℕ) (f : Fine e) where
+  order-long : (n : ℕ) → length (inOrder e n) ≡ n
+  unfolding inOrder
+  order-long zero = refl
+  order-long (suc n) = into-long e (standing (keyed e n) n) (inOrder e n) ∙ ap suc (order-long n)
 
-  -- what falls out is noMark
-  falls : e c < noKey → last e c xs ≡ Limits.noMark
-  falls k =
-      let w = last e c xs in
-      elim (hit w Limits.noMark) [
-        | inl y ↦ y .0
-        | inr n ↦
-            let low : e w < noKey =
-            elim (hit c w) [
-              | inl y ↦ subst (λ (z : ℕ). e z < noKey) (y .0) k
-              | inr m ↦ small w (member e mine xs s w (n .0) (omega (arith, pass-count e w c xs, hit-self w)))
-            ] in
-            absurd (omega (arith, low, last-max e Limits.noMark c xs (room e mine xs s below c l h), top-key e f))
-      ]
+  order-up : (n : ℕ) → rises e 0 (inOrder e n) ≡ true
+  unfolding inOrder
+  order-up zero = up-none e 0
+  order-up (suc n) = into-up e 0 (standing (keyed e n) n) (inOrder e n) (order-up n) (omega arith)
 
-  goes-in : e c < noKey → Sorted e (λ q. mine q || eqb q c) (pass e c xs)
-  goes-in k = record { long = pass-long e c xs ∙ s .long; once = counts; rising = pass-up e 0 c xs (s .rising) (omega arith) }
-    where
-      counts : (q : ℕ) → (q ≡ Limits.noMark → ⊥) → countOf q (pass e c xs) ≡ oneIf (mine q || eqb q c)
-      counts q n =
-          let step : countOf q (pass e c xs) + oneIf (eqb Limits.noMark q) ≡ oneIf (eqb c q) + countOf q xs = ap (λ (z : ℕ). countOf q (pass e c xs) + oneIf (eqb z q))
-          (sym (falls k)) ∙ pass-count e q c xs in
-          let z = ap oneIf (ne-eqb Limits.noMark q (λ p. n (sym p))) in
-          elim (hit c q) [
-            | inl y ↦
-                let g : oneIf (mine q || eqb q c) ≡ 1 = ap (λ (b : Bool). oneIf (b || eqb q c)) (ap mine (sym (y .0)) ∙ h) ∙ ap oneIf (eq-eqb q c (sym (y .0))) in
-                omega (arith, step, z, y .1, g, s .once q n, ap (λ (b : Bool). oneIf b) (ap mine (sym (y .0)) ∙ h))
-            | inr m ↦
-                let g : oneIf (mine q || eqb q c) ≡ oneIf (mine q) = ap (λ (b : Bool). oneIf (mine q || b)) (ne-eqb q c (λ p. m .0 (sym p))) ∙ ap oneIf (or-false (mine q)) in
-                omega (arith, step, z, m .1, g, s .once q n)
-          ]
-        where
-          or-false : (b : Bool) → (b || false) ≡ b
-          or-false true = refl
-          or-false false = refl
-
-  pub inserted : Sorted e (λ q. mine q || (eqb q c && keyed e c)) (pass e c xs)
-  inserted =
-      elim (lt-or-ge (e c) noKey) [
-        | inl k ↦ retaken e (λ q. mine q || eqb q c) (λ q. mine q || (eqb q c && keyed e c)) (pass e c xs)
-            (λ q n. sym (ap (λ (b : Bool). mine q || (eqb q c && b)) (lt-ltb (e c) noKey k) ∙ ap (λ (b : Bool). mine q || b) (and-one (eqb q c)))) (goes-in k)
-        | inr k ↦
-            subst (Sorted e (λ q. mine q || (eqb q c && keyed e c))) (sym (pass-top e c xs (λ v. omega (arith, f .most v, k))))
-            (retaken e mine (λ q. mine q || (eqb q c && keyed e c)) xs (λ q n. sym (ap (λ (b : Bool). mine q || (eqb q c && b)) (le-ltb (e c) noKey k) ∙ none (mine q) (eqb q c))) s)
-      ]
-    where
-      and-one : (b : Bool) → (b && true) ≡ b
-      and-one true = refl
-      and-one false = refl
-
-      none : (a b : Bool) → (a || (b && false)) ≡ a
-      none true b = refl
-      none false true = refl
-      none false false = refl
-
--- out with the old marks of a place, in with the new ones
-unfoldable pub reordered : (ℕ → ℕ) → ℕ → List ℕ → List ℕ
-reordered e place xs = pass e (highMark place) (pass e (lowMark place) (cleared place xs))
-
-module _ (e e′ : ℕ → ℕ) (xs : List ℕ) (place : ℕ) (l : place < Limits.places) (f : Fine e) (f′ : Fine e′) (stay : (q : ℕ) → (markPlace q ≡ place → ⊥) → e q ≡ e′ q) (s : Sorted e (keyed e) xs) where
-  abbrev mine₁ : ℕ → Bool
-  mine₁ q = keyed e q && notOf place q
-
-  abbrev mine₂ : ℕ → Bool
-  mine₂ q = mine₁ q || (eqb q (lowMark place) && keyed e′ (lowMark place))
-
-  abbrev mine₃ : ℕ → Bool
-  mine₃ q = mine₂ q || (eqb q (highMark place) && keyed e′ (highMark place))
-
-  other : (q : ℕ) → mine₁ q ≡ true → (keyed e q ≡ true) × (markPlace q ≡ place → ⊥)
-  other q h = let p = and-true (keyed e q) (notOf place q) h in (p .0, λ k. false≢true (sym (ap not (eq-eqb (markPlace q) place k)) ∙ p .1))
-
-  own : (q : ℕ) → markPlace q ≡ place → mine₁ q ≡ false
-  own q k = ap (λ (b : Bool). keyed e q && not b) (eq-eqb (markPlace q) place k) ∙ and-false (keyed e q)
-
-  small₁ : (q : ℕ) → mine₁ q ≡ true → e′ q < noKey
-  small₁ q h = let p = other q h in omega (arith, ltb-true (e q) noKey (p .0), stay q (p .1))
-
-  small₂ : (q : ℕ) → mine₂ q ≡ true → e′ q < noKey
-  small₂ q h = either (mine₁ q) refl
-    where
-      either : (b : Bool) → mine₁ q ≡ b → e′ q < noKey
-      either true m = small₁ q m
-      either false m =
-          let p = and-true (eqb q (lowMark place)) (keyed e′ (lowMark place)) (ap (λ (b : Bool). b || (eqb q (lowMark place) && keyed e′ (lowMark place))) (sym m) ∙ h) in
-          elim (hit q (lowMark place)) [
-            | inl y ↦ subst (λ (z : ℕ). e′ z < noKey) (sym (y .0)) (ltb-true (e′ (lowMark place)) noKey (p .1))
-            | inr n ↦ absurd (false≢true (sym (ne-eqb q (lowMark place) (n .0)) ∙ p .0))
-          ]
-
-  step₁ : Sorted e′ mine₁ (cleared place xs)
-  step₁ = rekeyed e e′ mine₁ (cleared place xs) f f′ (λ q h. stay q (other q h .1)) (removed e (keyed e) xs place f s)
-
-  step₂ : Sorted e′ mine₂ (pass e′ (lowMark place) (cleared place xs))
-  step₂ = inserted e′ mine₁ (cleared place xs) (lowMark place) f′ step₁ small₁ (omega arith) (own (lowMark place) (omega arith))
-
-  high-out : mine₂ (highMark place) ≡ false
-  high-out =
-      ap (λ (b : Bool). b || (eqb (highMark place) (lowMark place) && keyed e′ (lowMark place))) (own (highMark place) (omega arith))
-      ∙ ap (λ (b : Bool). b && keyed e′ (lowMark place)) (ne-eqb (highMark place) (lowMark place) (λ p. omega arith))
-
-  step₃ : Sorted e′ mine₃ (pass e′ (highMark place) (pass e′ (lowMark place) (cleared place xs)))
-  step₃ = inserted e′ mine₂ (pass e′ (lowMark place) (cleared place xs)) (highMark place) f′ step₂ small₂ (omega arith) high-out
-
-  -- what is mine in the end is what the new keys say
-  in-the-end : (q : ℕ) → mine₃ q ≡ keyed e′ q
-  in-the-end q =
-      elim (hit (markPlace q) place) [
-        | inr n ↦
-            ap (λ (b : Bool). (((keyed e q && not b) || (eqb q (lowMark place) && keyed e′ (lowMark place))) || (eqb q (highMark place) && keyed e′ (highMark place))))
-            (ne-eqb (markPlace q) place (n .0))
-            ∙ ap (λ (b : Bool). (((keyed e q && true) || (b && keyed e′ (lowMark place))) || (eqb q (highMark place) && keyed e′ (highMark place))))
-            (ne-eqb q (lowMark place) (λ p. n .0 (omega arith)))
-            ∙ ap (λ (b : Bool). (((keyed e q && true) || false) || (b && keyed e′ (highMark place)))) (ne-eqb q (highMark place) (λ p. n .0 (omega arith)))
-            ∙ plain (keyed e q) ∙ ap (λ (k : ℕ). ltb k noKey) (stay q (n .0))
+  order-count : (n q : ℕ) → n ≤ Limits.axisMarks → (q ≡ Limits.noMark → ⊥) → countOf q (inOrder e n) ≡ cond (ltb q n) (oneIf (keyed e q)) 0
+  unfolding inOrder countOf
+  order-count zero q l m = sym (ap (λ (b : Bool). cond b (oneIf (keyed e q)) 0) (le-ltb q 0 (omega arith)))
+  order-count (suc n) q l m =
+      into-count e q (standing (keyed e n) n) (inOrder e n)
+      ∙ elim (hit q n) [
         | inl y ↦
-            ap (λ (b : Bool). ((b || (eqb q (lowMark place) && keyed e′ (lowMark place))) || (eqb q (highMark place) && keyed e′ (highMark place)))) (own q (y .0))
-            ∙ elim (hit q (lowMark place)) [
-              | inl z ↦
-                  ap (λ (b : Bool). ((b && keyed e′ (lowMark place)) || (eqb q (highMark place) && keyed e′ (highMark place)))) (eq-eqb q (lowMark place) (z .0))
-                  ∙ ap (λ (b : Bool). (keyed e′ (lowMark place) || (b && keyed e′ (highMark place)))) (ne-eqb q (highMark place) (λ p. omega (arith, z .0)))
-                  ∙ alone (keyed e′ (lowMark place)) ∙ sym (ap (keyed e′) (z .0))
-              | inr z ↦
-                  let k : q ≡ highMark place = high q place (y .0) (z .0) in
-                  ap (λ (b : Bool). ((b && keyed e′ (lowMark place)) || (eqb q (highMark place) && keyed e′ (highMark place)))) (ne-eqb q (lowMark place) (z .0))
-                  ∙ ap (λ (b : Bool). b && keyed e′ (highMark place)) (eq-eqb q (highMark place) k)
-                  ∙ sym (ap (keyed e′) k)
-            ]
+            omega (
+              arith,
+              subst (λ (z : ℕ). oneIf (eqb (standing (keyed e n) n) z) ≡ oneIf (keyed e n)) (sym (y .0)) (own-standing n (omega arith) (keyed e n)),
+              order-count n q (omega arith) m,
+              ap (λ (b : Bool). cond b (oneIf (keyed e q)) 0) (le-ltb q n (omega arith)),
+              ap (λ (b : Bool). cond b (oneIf (keyed e q)) 0) (lt-ltb q (suc n) (omega arith)),
+              ap (λ (z : ℕ). oneIf (keyed e z)) (y .0),
+            )
+        | inr y ↦
+            omega (
+              arith,
+              other-standing n (keyed e n) q (y .0) m,
+              order-count n q (omega arith) m,
+              ap (λ (b : Bool). cond b (oneIf (keyed e q)) 0) (same-side q n (y .0)),
+            )
       ]
     where
-      plain : (b : Bool) → (((b && true) || false) || false) ≡ b
-      plain true = refl
-      plain false = refl
+      same-side : (q n : ℕ) → (q ≡ n → ⊥) → ltb q n ≡ ltb q (suc n)
+      same-side q n d = elim (lt-or-ge q n) [ inl b ↦ lt-ltb q n b ∙ sym (lt-ltb q (suc n) (omega arith)) | inr b ↦ le-ltb q n b ∙ sym (le-ltb q (suc n) (over q n b d)) ]
+        where
+          over : (q n : ℕ) → n ≤ q → (q ≡ n → ⊥) → suc n ≤ q
+          over q n l d = omega arith
 
-      alone : (b : Bool) → (b || false) ≡ b
-      alone true = refl
-      alone false = refl
-
-      high : (q p : ℕ) → markPlace q ≡ p → (q ≡ lowMark p → ⊥) → q ≡ highMark p
-      high q p y z = omega arith
-
-  pub stays-sorted : Sorted e′ (keyed e′) (reordered e′ place xs)
-  unfolding reordered
-  stays-sorted = retaken e′ mine₃ (keyed e′) (pass e′ (highMark place) (pass e′ (lowMark place) (cleared place xs))) (λ q _. in-the-end q) step₃
+  pub sorted-is : Sorted e (keyed e) (inOrder e Limits.axisMarks)
+  sorted-is = record { long = order-long Limits.axisMarks; once = λ q n. order-count Limits.axisMarks q (omega arith) n ∙ whole q; rising = order-up Limits.axisMarks }
+    where
+      whole : (q : ℕ) → cond (ltb q Limits.axisMarks) (oneIf (keyed e q)) 0 ≡ oneIf (keyed e q)
+      whole q =
+          elim (lt-or-ge q Limits.axisMarks) [
+            | inl l ↦ ap (λ (b : Bool). cond b (oneIf (keyed e q)) 0) (lt-ltb q Limits.axisMarks l)
+            | inr l ↦ ap (λ (b : Bool). cond b (oneIf (keyed e q)) 0) (le-ltb q Limits.axisMarks l) ∙ sym (ap oneIf (le-ltb (e q) noKey (omega (arith, f .far q l))))
+          ]

@@ -15,6 +15,12 @@ pub const START_Y: usize = limits::AXIS_MARKS;
 
 pub const START_Z: usize = 2 * limits::AXIS_MARKS;
 
+// The keys of a place's two marks, both NO_KEY where it is empty.
+pub struct MarkKeys {
+    pub low: u32,
+    pub high: u32,
+}
+
 pub fn wide(x: u16) -> usize
     ensures { λ r. ⌜ r ≡ x ⌝ }
 {

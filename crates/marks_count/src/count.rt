@@ -1,18 +1,17 @@
 // How many pairs of a mark of the moved place and a mark of another place change their order on one axis.
-// Counted by the definition, over all marks with the old and the new keys.
+// Counted by the definition, in two straight loops: over the marks below the own two, and over those above.
 ghost use mathlib.Core.Path.{_≡_};
 ghost use mathlib.Core.Bool.{xor};
-ghost use Prim.Native.Nat.{_<_};
-ghost use lib.Dec.{ltb};
-ghost use lib.ListN.{getD};
+ghost use Prim.Native.Nat.{_+_, _*_, _≤_, _<_};
 ghost use Rattle.limits.specs.Limits;
-ghost use Rattle.ints.specs.Counts.{oneIf};
-ghost use Rattle.marks.specs.Changed.{crossedKeys, crossedAt};
+ghost use Rattle.ints.specs.Counts.{oneIf, sumTo};
+ghost use Rattle.marks.specs.Keys.{keysAt};
+ghost use Rattle.marks.specs.Changed.{crossedBy, crossedWith};
 ghost use Rattle.marks.specs.Promises.{Counted};
-use marks::NO_KEY;
+use marks::MarkKeys;
 
 fn differs(a: bool, b: bool) -> u32
-    ensures { λ r. ⌜ r ≡ oneIf (xor a b) ⌝ }
+    ensures { λ r. ⌜ (r ≡ oneIf (xor a b)) × (r ≤ 1) ⌝ }
 {
     if a {
         if b { 0 } else { 1 }
@@ -21,49 +20,53 @@ fn differs(a: bool, b: bool) -> u32
     }
 }
 
-// Whether one mark comes before another.
-fn earlier(keys: &[u32; limits::AXIS_MARKS], own: usize, other: usize) -> bool
-    requires { ⌜ (own < Limits.axisMarks) × (other < Limits.axisMarks) ⌝ }
-    ensures { λ r. ⌜ r ≡ ltb (getD (now (keys .entry)) own 0) (getD (now (keys .entry)) other 0) ⌝ }
+// The keys of a place's two marks.
+fn keys_at(keys: &[u32; limits::AXIS_MARKS], place: usize) -> MarkKeys
+    requires { ⌜ place < Limits.places ⌝ }
+    ensures { λ r. ⌜ r ≡ keysAt (now (keys .entry)) place ⌝ }
 {
-    keys[own] < keys[other]
+    MarkKeys {
+        low: keys[2 * place],
+        high: keys[2 * place + 1],
+    }
 }
 
-// 1 where the order of the two by the old keys is not that by the new ones.
-fn crossed(
-    old: &[u32; limits::AXIS_MARKS],
-    new: &[u32; limits::AXIS_MARKS],
-    own: usize,
-    other: usize,
-) -> u32
-    requires { ⌜ (own < Limits.axisMarks) × (other < Limits.axisMarks) ⌝ }
-    ensures { λ r. ⌜ r ≡ crossedKeys (now (old .entry)) (now (new .entry)) own other ⌝ }
+// How many of the two own marks, with keys that were and keys that are, change their order with a mark of these keys.
+fn crossed_by(was: MarkKeys, is: MarkKeys, before: u32, after: u32) -> u32
+    ensures { λ r. ⌜ r ≡ crossedBy was is before after ⌝ }
 {
-    differs(earlier(old, own, other), earlier(new, own, other))
-}
-
-// How many of the place's two marks change their order with this one, if it is another place's.
-fn crossed_at(
-    old: &[u32; limits::AXIS_MARKS],
-    new: &[u32; limits::AXIS_MARKS],
-    place: usize,
-    other: usize,
-) -> u32
-    requires { ⌜ (place < Limits.places) × (other < Limits.axisMarks) ⌝ }
-    ensures { λ r. ⌜ r ≡ crossedAt (now (old .entry)) (now (new .entry)) place other ⌝ }
-{
-    if old[other] >= NO_KEY {
-        return 0;
-    }
-    if other / 2 == place {
-        return 0;
-    }
-    let low = crossed(old, new, 2 * place, other);
-    let high = crossed(old, new, 2 * place + 1, other);
+    let was_low = was.low;
+    let was_high = was.high;
+    let is_low = is.low;
+    let is_high = is.high;
+    let low = differs(was_low < before, is_low < after);
+    let high = differs(was_high < before, is_high < after);
     low + high
 }
 
-// The count of a move on one axis.
+// The count over some of the marks.
+fn count_between(
+    old: &[u32; limits::AXIS_MARKS],
+    new: &[u32; limits::AXIS_MARKS],
+    was: MarkKeys,
+    is: MarkKeys,
+    from: usize,
+    to: usize,
+) -> u32
+    requires { ⌜ (from ≤ to) × (to ≤ Limits.axisMarks) ⌝ }
+    ensures { λ r. ⌜ (r + 2 * from ≤ 2 * to)
+        × (r + sumTo from (crossedWith (now (old .entry)) (now (new .entry)) was is) ≡ sumTo to (crossedWith (now (old .entry)) (now (new .entry)) was is)) ⌝ }
+{
+    let mut n = 0;
+    let mut other = from;
+    while other < to {
+        n += crossed_by(was, is, old[other], new[other]);
+        other += 1;
+    }
+    n
+}
+
+// The count of a move on one axis: the own two marks are never met.
 pub(crate) fn count_changed(
     old: &[u32; limits::AXIS_MARKS],
     new: &[u32; limits::AXIS_MARKS],
@@ -72,11 +75,9 @@ pub(crate) fn count_changed(
     requires { ⌜ place < Limits.places ⌝ }
     ensures { λ r. ⌜ Counted (now (old .entry)) (now (new .entry)) place r ⌝ }
 {
-    let mut n = 0;
-    let mut other = 0;
-    while other < limits::AXIS_MARKS {
-        n += crossed_at(old, new, place, other);
-        other += 1;
-    }
-    n
+    let was = keys_at(old, place);
+    let is = keys_at(new, place);
+    let below = count_between(old, new, was, is, 0, 2 * place);
+    let above = count_between(old, new, was, is, 2 * place + 2, limits::AXIS_MARKS);
+    below + above
 }

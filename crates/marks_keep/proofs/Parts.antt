@@ -1,18 +1,15 @@
 -- Three parts of one buffer, lent on one after the other: the buffer afterwards is the three results, one after the other.
--- Holds for any three functions of lists that keep the length.
+-- Holds for whatever is done to each part, if it keeps the length.
 use mathlib.Core.Path.{_≡_, ap, sym, _∙_, subst}
 use mathlib.Core.List.{List, _++_, append-assoc, append-nil}
-use Prim.Native.Nat.{ℕ, _*_, _<_}
+use Prim.Native.Nat.{ℕ, _*_}
 use native.Mathlib.Omega.{arith}
 use lib.ListN.{length, take, drop, length-append, length-drop, drop-of-length-le}
 use lib.Seq.{take-at, drop-at, drop-drop, take-all, length-take-le}
 use Rattle.limits.specs.Limits
-use Rattle.marks.specs.Marks.{axisOf, InPlace, partX, partY, partZ}
-use Rattle.marks.specs.Keys.{keyOf}
-use Rattle.marks.specs.Sorted.{reordered}
-use Rattle.marks.specs.Cells.{stays-in-place}
-use Rattle.marks.specs.Buffer.{on-axis}
-use Rattle.marks.specs.Promises.{ReorderedMarks}
+use Rattle.marks.specs.declared.MarkKeys.{MarkKeys}
+use Rattle.marks.specs.Marks.{axisOf, partX, partY, partZ}
+use Rattle.marks.specs.Promises.{Reordered, ReorderedMarks}
 
 module _ (m a b c : List ℕ) (hm : length m ≡ Limits.marks) (la : length a ≡ Limits.axisMarks) (lb : length b ≡ Limits.axisMarks) (lc : length c ≡ Limits.axisMarks) where
   abbrev one : List ℕ
@@ -69,47 +66,37 @@ module _ (m a b c : List ℕ) (hm : length m ≡ Limits.marks) (la : length a �
       ap (take Limits.axisMarks) (sym (drop-drop Limits.axisMarks Limits.axisMarks three) ∙ ap (drop Limits.axisMarks) three-rest ∙ drop-at b c Limits.axisMarks lb) ∙ take-all Limits.axisMarks c
       (omega arith)
 
-module _ (f g h : List ℕ → List ℕ) (m a b c : List ℕ) (hm : length m ≡ Limits.marks) where
-  pub three-functions : a ≡ f (take Limits.axisMarks m) → length a ≡ length (take Limits.axisMarks m)
-      → b ≡ g (take Limits.axisMarks (drop Limits.axisMarks (a ++ drop Limits.axisMarks m))) → length b ≡ length (take Limits.axisMarks (drop Limits.axisMarks (a ++ drop Limits.axisMarks m)))
+-- whatever each part has to do with what it was, so has the buffer's
+module _ (R S T : List ℕ → List ℕ → Type 0) (m a b c : List ℕ) (hm : length m ≡ Limits.marks) where
+  pub three-lent : R (take Limits.axisMarks m) a → length a ≡ length (take Limits.axisMarks m)
+      → S (take Limits.axisMarks (drop Limits.axisMarks (a ++ drop Limits.axisMarks m))) b → length b ≡ length (take Limits.axisMarks (drop Limits.axisMarks (a ++ drop Limits.axisMarks m)))
       → (let one′ = a ++ drop Limits.axisMarks m in let two′ = take Limits.axisMarks one′ ++ (b ++ drop Limits.axisMarks (drop Limits.axisMarks one′)) in
-      c ≡ h (take Limits.axisMarks (drop (2 * Limits.axisMarks) two′)) → length c ≡ length (take Limits.axisMarks (drop (2 * Limits.axisMarks) two′))
+      T (take Limits.axisMarks (drop (2 * Limits.axisMarks) two′)) c → length c ≡ length (take Limits.axisMarks (drop (2 * Limits.axisMarks) two′))
       → let m′ = take (2 * Limits.axisMarks) two′ ++ (c ++ drop Limits.axisMarks (drop (2 * Limits.axisMarks) two′)) in
-      (m′ ≡ f (take Limits.axisMarks m) ++ (g (take Limits.axisMarks (drop Limits.axisMarks m)) ++ h (take Limits.axisMarks (drop (2 * Limits.axisMarks) m)))) × (length m′ ≡ Limits.marks)
-      × (take Limits.axisMarks m′ ≡ f (take Limits.axisMarks m)) × (take Limits.axisMarks (drop Limits.axisMarks m′) ≡ g (take Limits.axisMarks (drop Limits.axisMarks m))) ×
-      (take Limits.axisMarks (drop (2 * Limits.axisMarks) m′) ≡ h (take Limits.axisMarks (drop (2 * Limits.axisMarks) m))))
-  three-functions ea ka eb kb ec kc =
+      (length m′ ≡ Limits.marks) × R (partX m) (partX m′) × S (partY m) (partY m′) × T (partZ m) (partZ m′))
+  three-lent ra ka sb kb tc kc =
       let la : length a ≡ Limits.axisMarks = ka ∙ length-take-le Limits.axisMarks m (omega arith) in
       let lb : length b ≡ Limits.axisMarks = kb ∙ ap (λ (l : List ℕ). length (take Limits.axisMarks l)) (drop-at a (drop Limits.axisMarks m) Limits.axisMarks la) ∙ length-take-le Limits.axisMarks
       (drop Limits.axisMarks m) (omega (arith, length-drop Limits.axisMarks m)) in
       let lc : length c ≡ Limits.axisMarks = kc ∙ ap length (third-was m a b b hm la lb lb) ∙ length-take-le Limits.axisMarks (drop (2 * Limits.axisMarks) m)
-      (omega (arith, length-drop (2 * Limits.axisMarks) m)) in
-      let eb′ : b ≡ g (take Limits.axisMarks (drop Limits.axisMarks m)) = eb ∙ ap g (second-was m a b c hm la lb lc) in
-      let ec′ : c ≡ h (take Limits.axisMarks (drop (2 * Limits.axisMarks) m)) = ec ∙ ap h (third-was m a b c hm la lb lc) in (
-        three-is m a b c hm la lb lc ∙ ap (λ (l : List ℕ). l ++ (b ++ c)) ea ∙ ap (λ (l : List ℕ). f (take Limits.axisMarks m) ++ (l ++ c)) eb′ ∙ ap
-            (λ (l : List ℕ). f (take Limits.axisMarks m) ++ (g (take Limits.axisMarks (drop Limits.axisMarks m)) ++ l)) ec′,
+      (omega (arith, length-drop (2 * Limits.axisMarks) m)) in (
         ap length (three-is m a b c hm la lb lc) ∙ omega (arith, length-append a (b ++ c), length-append b c),
-        first-now m a b c hm la lb lc ∙ ea,
-        second-now m a b c hm la lb lc ∙ eb′,
-        third-now m a b c hm la lb lc ∙ ec′,
+        subst (R (partX m)) (sym (first-now m a b c hm la lb lc)) ra,
+        subst (S (partY m)) (sym (second-now m a b c hm la lb lc)) (subst (λ (l : List ℕ). S l b) (second-was m a b c hm la lb lc) sb),
+        subst (T (partZ m)) (sym (third-now m a b c hm la lb lc)) (subst (λ (l : List ℕ). T l c) (third-was m a b c hm la lb lc) tc),
       )
 
 -- each part reordered: the buffer is
-pub reordered-marks : (x y z : List ℕ) (place : ℕ) (m m′ : List ℕ) → place < Limits.places
-    → (m′ ≡ reordered (keyOf x) place (partX m) ++ (reordered (keyOf y) place (partY m) ++ reordered (keyOf z) place (partZ m))) × (length m′ ≡ Limits.marks)
-    × (partX m′ ≡ reordered (keyOf x) place (partX m)) × (partY m′ ≡ reordered (keyOf y) place (partY m)) × (partZ m′ ≡ reordered (keyOf z) place (partZ m)) → ReorderedMarks x y z place m m′
-reordered-marks x y z place m m′ l e = record {
-  is = e .0;
-  stays = λ old new r k o p. record {
-    long = e .1;
-    on-x =
-        subst (InPlace (axisOf new 0)) (sym (e .2))
-        (stays-in-place (axisOf old 0) (axisOf new 0) x place (partX m) l (r 0 (omega arith)) (k .on-x) (on-axis place 0 old new (omega arith) o) (p .on-x));
-    on-y =
-        subst (InPlace (axisOf new 1)) (sym (e .3))
-        (stays-in-place (axisOf old 1) (axisOf new 1) y place (partY m) l (r 1 (omega arith)) (k .on-y) (on-axis place 1 old new (omega arith) o) (p .on-y));
-    on-z =
-        subst (InPlace (axisOf new 2)) (sym (e .4))
-        (stays-in-place (axisOf old 2) (axisOf new 2) z place (partZ m) l (r 2 (omega arith)) (k .on-z) (on-axis place 2 old new (omega arith) o) (p .on-z));
+pub all-reordered : {place : ℕ} {kx ky kz : MarkKeys} {x y z x′ y′ z′ m m′ : List ℕ} → (length m′ ≡ Limits.marks) × Reordered place kx x x′ (partX m) (partX m′)
+    × Reordered place ky y y′ (partY m) (partY m′) × Reordered place kz z z′ (partZ m) (partZ m′) → ReorderedMarks place kx ky kz x y z x′ y′ z′ m m′
+all-reordered e = record {
+  put-x = e .1 .put;
+  put-y = e .2 .put;
+  put-z = e .3 .put;
+  stays = λ old new ko kn p. record {
+    long = e .0;
+    on-x = e .1 .stays (axisOf old 0) (axisOf new 0) (ko .on-x) (kn .on-x) (p .on-x);
+    on-y = e .2 .stays (axisOf old 1) (axisOf new 1) (ko .on-y) (kn .on-y) (p .on-y);
+    on-z = e .3 .stays (axisOf old 2) (axisOf new 2) (ko .on-z) (kn .on-z) (p .on-z);
   };
 }

@@ -16,7 +16,7 @@ use Rattle.ints.specs.Counts.{oneIf, sumTo, countOf, hit, hit-self, and-true, o
 use Rattle.ints.specs.Order.{lt-or-ge}
 use Rattle.marks.specs.Keys.{noKey, keyAt, Keyed, keyOf}
 use Rattle.marks.specs.Rising.{rises, up-head, up-make, up-none}
-use Rattle.marks.specs.Sorted.{Fine, Sorted, keyed, keyed-low, top-key, counted}
+use Rattle.marks.specs.Sorted.{Fine, own-key, Sorted, keyed, keyed-low, top-key, counted}
 use Rattle.marks.specs.Order.{fine, keys-are}
 use Rattle.marks.specs.Cells.{in-place, sorted}
 use Rattle.marks_test.specs.Tested.{climbs, blank, marksIn, partPasses, marksPass, Tested, TestedMarks}
@@ -177,7 +177,7 @@ module _ (e : ℕ → ℕ) (f : Fine e) where
         | inr n ↦
             let xx = hit-self x in
             let mine : e x < noKey = ltb-true (e x) noKey (oneIf-true (keyed e x) (omega (arith, h x (n .0)))) in
-            let s = settles (suc (e x)) xs (higher (e x) xs (λ v m q. omega (arith, h x (n .0), oneIf≤ (keyed e x), ap (λ (z : ℕ). countOf z xs) (f .own x v mine (sym q)))) (p .1))
+            let s = settles (suc (e x)) xs (higher (e x) xs (λ v m q. omega (arith, h x (n .0), oneIf≤ (keyed e x), ap (λ (z : ℕ). countOf z xs) (own-key e f x v mine (sym q)))) (p .1))
             (λ v m. omega (arith, h v m)) in
             (suc (s .0), make k x (take (s .0) xs) (p .0) mine (s .1), s .2, omega (arith, s .3, n .1))
       ]

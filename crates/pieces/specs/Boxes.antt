@@ -8,7 +8,6 @@ use lib.ListN.{take, drop, replicate}
 use lib.IntN.{ℤ, pos}
 use lib.Signed.{_<ℤ_}
 use Rattle.limits.specs.Limits
-use Rattle.pieces.specs.declared.placed.Ends.{Ends}
 use Rattle.pieces.specs.Pieces.{Store, Taken, PiecesInOrder, countAt, pieceAt, lowAt, highAt}
 
 -- the piece at a taken place of a store in order
@@ -20,10 +19,6 @@ pub record PlacedPiece (d : Store) (p : ℕ) : Type 0 where
 pub record Numbers (d : Store) (p : ℕ) (r : List ℤ) : Type 0 where
   pub is : take (3 * countAt d p) r ≡ pieceAt d p
   pub rest : drop (3 * countAt d p) r ≡ replicate (Limits.shapeNumbers - 3 * countAt d p) (pos 0)
-
-pub record EndsAt (d : Store) (p axis : ℕ) (r : Ends) : Type 0 where
-  pub low : r .low ≡ lowAt d axis p
-  pub high : r .high ≡ highAt d axis p
 
 -- "one high mark's value is below the other's low", and on some axis
 abbrev pub ApartOn : Store → ℕ → ℕ → ℕ → Type 0

@@ -1,5 +1,5 @@
 -- A piece's numbers from the arrays that it is read from: what the functions between the arrays and the store promise.
--- With the pose of the store, they are the placed corners and ends of Pieces.
+-- With the pose of the store, they are the placed corners of Pieces.
 use mathlib.Core.Path.{_≡_, sym, ap, ap₂, _∙_}
 use mathlib.Core.List.{List, [], _∷_, _++_}
 use mathlib.Core.Bool.{Bool, true, false, cond}
@@ -16,7 +16,6 @@ use Rattle.limits.specs.Numbered.{Numbered}
 use Rattle.turns.specs.Turns.{placedAt}
 use Rattle.turns.specs.Range.{placed-within}
 use Rattle.pieces.specs.declared.placed.Pose.{Pose}
-use Rattle.pieces.specs.declared.placed.Ends.{Ends}
 use Rattle.pieces.specs.Pieces
 
 -- coordinate `axis` of corner i
@@ -39,10 +38,6 @@ pub record PoseFits (shapes places : List ℤ) (pose : Pose) (place : ℕ) : Typ
   pub turn : pose .turn < Limits.turns
   pub near : (k : ℕ) → k < 3 * pose .count → Within Limits.shapeReach (cornerNumber shapes pose k)
   pub offset : (axis : ℕ) → axis < 3 → Within Limits.shapeReach (offsetNumber places place axis)
-
-pub record EndsOf (shapes places : List ℤ) (pose : Pose) (place axis : ℕ) (r : Ends) : Type 0 where
-  pub low : r .low ≡ Pieces.leastTo (pose .count) (λ i. numberAt shapes places pose place i axis)
-  pub high : r .high ≡ Pieces.greatestTo (pose .count) (λ i. numberAt shapes places pose place i axis)
 
 -- the piece's numbers in front of an array, and 0 after them
 pub record NumbersOf (shapes places : List ℤ) (pose : Pose) (place : ℕ) (r : List ℤ) : Type 0 where
@@ -113,13 +108,6 @@ pub number-within : {shapes places : List ℤ} {pose : Pose} {place : ℕ} → P
     → Within Limits.placedReach (numberAt shapes places pose place i axis)
 unfolding numberAt
 number-within {pose} h i axis hi ha = placed-within (pose .turn) axis (h .near (3 * i) (omega arith)) (h .near (3 * i + 1) (omega arith)) (h .near (3 * i + 2) (omega arith)) (h .offset axis ha)
-
--- what the loop holds as bits
-pub least-bits : {v w low : ℤ} {n : ℕ} (f : ℕ → ℤ) → 1 ≤ n → v ≡ f n → w ≡ Pieces.lesser v low → low ≡ Pieces.leastTo n f → w ≡ Pieces.leastTo (n + 1) f
-least-bits {n} f h ev ew el = ew ∙ ap₂ Pieces.lesser ev el ∙ sym (least-more n f h)
-
-pub greatest-bits : {v w high : ℤ} {n : ℕ} (f : ℕ → ℤ) → 1 ≤ n → v ≡ f n → w ≡ Pieces.greater v high → high ≡ Pieces.greatestTo n f → w ≡ Pieces.greatestTo (n + 1) f
-greatest-bits {n} f h ev ew el = ew ∙ ap₂ Pieces.greater ev el ∙ sym (greatest-more n f h)
 
 pub pose-eq : {s s′ n n′ t t′ : ℕ} → s ≡ s′ → n ≡ n′ → t ≡ t′ → _≡_ {A = Pose} (record { start = s; count = n; turn = t }) (record { start = s′; count = n′; turn = t′ })
 pose-eq es en et = λ i. record { start = es i; count = en i; turn = et i }

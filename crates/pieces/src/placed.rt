@@ -1,4 +1,4 @@
-// The piece at a taken place: its placed corners as a list, its ends on an axis, and whether two pieces' boxes are apart.
+// The piece at a taken place: its placed corners as a list, and how many they are.
 // A turned and moved corner is worked out coordinate by coordinate, where it is needed.
 ghost use mathlib.Core.Path.{_≡_};
 ghost use Prim.Native.Nat.{_≤_, _<_};
@@ -6,42 +6,17 @@ ghost use lib.IntN.{pos};
 ghost use lib.ListN.{replicate};
 ghost use Rattle.ints.specs.Bounds.{Within};
 ghost use Rattle.limits.specs.Limits;
-ghost use Rattle.limits.specs.Decides.{Decides};
-ghost use Rattle.pieces.specs.Pieces.{lesser, greater, storeOf, countAt};
-ghost use Rattle.pieces.specs.Boxes.{PlacedPiece, Numbers, EndsAt, ApartOn, Apart};
-ghost use Rattle.pieces.specs.Placed.{numberAt, PoseFits, NumbersOf, PoseAsked, poseOf, EndsOf};
+ghost use Rattle.pieces.specs.Pieces.{storeOf, countAt};
+ghost use Rattle.pieces.specs.Boxes.{PlacedPiece, Numbers};
+ghost use Rattle.pieces.specs.Placed.{numberAt, PoseFits, NumbersOf, PoseAsked, poseOf};
 use crate::index::index_of;
 use turns::placed_axis;
-
-// The least and the greatest placed corner on one axis.
-pub struct Ends {
-    pub low: i32,
-    pub high: i32,
-}
 
 // Where the numbers of a piece's shape start, how many corners it has, and its turn.
 pub struct Pose {
     pub start: usize,
     pub count: usize,
     pub turn: usize,
-}
-
-pub fn lesser(a: i32, b: i32) -> i32
-    ensures { λ r. ⌜ r ≡ lesser a b ⌝ }
-{
-    if a < b {
-        return a;
-    }
-    b
-}
-
-pub fn greater(a: i32, b: i32) -> i32
-    ensures { λ r. ⌜ r ≡ greater a b ⌝ }
-{
-    if b < a {
-        return a;
-    }
-    b
 }
 
 // Coordinate `axis` of corner i of a piece.
@@ -63,34 +38,6 @@ fn placed_number(
     let z = shapes[start + (3 * i + 2)];
     let offset = places[limits::PLACE_CELLS * place + 2 + axis];
     placed_axis(turn, axis, x, y, z, offset)
-}
-
-// The least and the greatest coordinate of a piece on an axis.
-fn ends_of(
-    shapes: &[i32; limits::SHAPES_LENGTH],
-    places: &[i32; limits::PLACES_LENGTH],
-    pose: Pose,
-    place: usize,
-    axis: usize,
-) -> Ends
-    requires { ⌜ PoseFits (now shapes) (now places) pose place × (axis < 3) ⌝ }
-    ensures { λ r. ⌜ EndsOf (now (shapes .entry)) (now (places .entry)) pose place axis r ⌝ }
-{
-    let n = pose.count;
-    let first = placed_number(shapes, places, pose, place, 0, axis);
-    let mut low = first;
-    let mut high = first;
-    let mut i = 1;
-    while i < n {
-        let v = placed_number(shapes, places, pose, place, i, axis);
-        low = lesser(v, low);
-        high = greater(v, high);
-        i += 1;
-    }
-    Ends {
-        low: low,
-        high: high,
-    }
 }
 
 fn no_numbers() -> [i32; limits::SHAPE_NUMBERS]
@@ -164,61 +111,4 @@ pub fn piece_count(
 {
     let pose = pose_of(shapes, places, place);
     pose.count
-}
-
-// Its ends on an axis.
-pub(crate) fn piece_ends(
-    shapes: &[i32; limits::SHAPES_LENGTH],
-    places: &[i32; limits::PLACES_LENGTH],
-    place: usize,
-    axis: usize,
-) -> Ends
-    requires { ⌜ PlacedPiece (storeOf (now shapes) (now places)) place × (axis < 3) ⌝ }
-    ensures { λ r. ⌜ EndsAt (storeOf (now (shapes .entry)) (now (places .entry))) place axis r ⌝ }
-{
-    let pose = pose_of(shapes, places, place);
-    ends_of(shapes, places, pose, place, axis)
-}
-
-// Whether two pieces' boxes are apart on an axis: one's high is below the other's low.
-fn apart_on(
-    shapes: &[i32; limits::SHAPES_LENGTH],
-    places: &[i32; limits::PLACES_LENGTH],
-    p: usize,
-    q: usize,
-    axis: usize,
-) -> bool
-    requires { ⌜ PlacedPiece (storeOf (now shapes) (now places)) p × PlacedPiece (storeOf (now shapes) (now places)) q × (axis < 3) ⌝ }
-    ensures { λ r. ⌜ Decides r (ApartOn (storeOf (now (shapes .entry)) (now (places .entry))) p q axis) ⌝ }
-{
-    let a = piece_ends(shapes, places, p, axis);
-    let b = piece_ends(shapes, places, q, axis);
-    let a_low = a.low;
-    let a_high = a.high;
-    let b_low = b.low;
-    let b_high = b.high;
-    if a_high < b_low {
-        return true;
-    }
-    b_high < a_low
-}
-
-// Whether the boxes of two pieces are apart: left at the first axis that parts them.
-pub fn boxes_apart(
-    shapes: &[i32; limits::SHAPES_LENGTH],
-    places: &[i32; limits::PLACES_LENGTH],
-    p: usize,
-    q: usize,
-) -> bool
-    requires { ⌜ PlacedPiece (storeOf (now shapes) (now places)) p × PlacedPiece (storeOf (now shapes) (now places)) q ⌝ }
-    ensures { λ r. ⌜ Decides r (Apart (storeOf (now (shapes .entry)) (now (places .entry))) p q) ⌝ }
-{
-    let mut axis = 0;
-    while axis < 3 {
-        if apart_on(shapes, places, p, q, axis) {
-            return true;
-        }
-        axis += 1;
-    }
-    false
 }

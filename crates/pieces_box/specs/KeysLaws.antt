@@ -9,7 +9,7 @@ use lib.Dec.{eqb}
 use lib.IntN.{ℤ, pos, natAbs, _+ℤ_}
 use lib.Signed.{_≤ℤ_, ltZ}
 use lib.ListN.{length, getD, set, length-set}
-use lib.Seq.{getD-set-same, getD-set-other}
+use lib.Seq.{getD-set-same, getD-set-other, ext-getD}
 use borrow.Author.Count.{below-more}
 use borrow.Author.Tests.{lt-ltb, eq-eqb, ne-eqb}
 use Rattle.limits.specs.Limits
@@ -22,11 +22,11 @@ use Rattle.marks.specs.Keys.{keyFor, noKey, keyAt, Keyed}
 use Rattle.marks.specs.Order.{at-mark, at-none}
 use Rattle.pieces.specs.Pieces.{Store, Taken, takenIn, turnIn, PiecesInOrder, axesOf, takenAt, shapeAt, turnAt, offsetAt, countAt, countIn, lowAt, highAt, leastTo, greatestTo}
 use Rattle.pieces.specs.EndLaws.{least-bound, greatest-bound}
-use Rattle.pieces.specs.Placed.{least-within, greatest-within}
 use Rattle.pieces.specs.Store.{taken-of, ranged}
-use Rattle.pieces.specs.declared.placed.Ends.{Ends}
+use Rattle.pieces_box.specs.declared.boxes.Ends.{Ends}
 use Rattle.pieces_box.specs.declared.boxes.ShapeBox.{ShapeBox}
 use Rattle.pieces_box.specs.ShapeBox.{axisNumber, between, endsOn, onAxis, boxOf, boxHeld, endsIn, Boxed, NearEnds, NearBox, EndsAsked, AllAsked, keyIn, KeysIn}
+use Rattle.pieces_box.specs.NearLaws.{near-box}
 use Rattle.pieces_box.specs.TurnedLaws.{endsOf, ends-turned, corners-turned}
 
 module _ {d : Store} {boxes : List ℤ} (o : PiecesInOrder d) (b : Boxed (d .shapes) boxes) where
@@ -63,12 +63,6 @@ module _ {d : Store} {boxes : List ℤ} (o : PiecesInOrder d) (b : Boxed (d .sha
         ∙ corners-turned (boxOf (d .shapes) (shapeAt d p)) k o (rising (axisNumber (natAbs k)))
         ∙ sym (ends-turned d p axis some)
 
-    near-on : (axis : ℕ) → axis < 3
-        → NearEnds (record { low = leastTo (countAt d p) (onAxis (d .shapes) (shapeAt d p) axis); high = greatestTo (countAt d p) (onAxis (d .shapes) (shapeAt d p) axis) })
-    near-on axis h =
-        let w : (i : ℕ) → i < countAt d p → Within Limits.shapeReach (onAxis (d .shapes) (shapeAt d p) axis i) = λ i l. o .shapes .near (shapeAt d p) (3 * i + axis) shape< (omega arith) in
-        record { low = least-within (countAt d p) _ some w; high = greatest-within (countAt d p) _ some w }
-
     pub asked : EndsAsked boxes (d .places) p
     asked =
         let q = o .places .all p t in
@@ -77,7 +71,7 @@ module _ {d : Store} {boxes : List ℤ} (o : PiecesInOrder d) (b : Boxed (d .sha
           some = t .holds;
           shape = q .shape;
           turn = q .turn;
-          near = subst NearBox (sym box-is) (record { x = near-on 0 (omega arith); y = near-on 1 (omega arith); z = near-on 2 (omega arith) });
+          near = subst NearBox (sym box-is) (near-box (d .shapes) (shapeAt d p) (countAt d p) some (λ k. o .shapes .near (shapeAt d p) k shape<));
           offset = q .offset;
         }
 
@@ -85,7 +79,7 @@ module _ {d : Store} {boxes : List ℤ} (o : PiecesInOrder d) (b : Boxed (d .sha
   all-asked = record { all = λ p t. asked t }
 
   -- ---- the keys
-  key-in : (axis mark : ℕ) → mark < Limits.axisMarks → keyIn boxes (d .places) axis mark ≡ keyAt (axisOf (axesOf d) axis) mark
+  pub key-in : (axis mark : ℕ) → mark < Limits.axisMarks → keyIn boxes (d .places) axis mark ≡ keyAt (axisOf (axesOf d) axis) mark
   key-in axis mark h = go (takenAt d (mark / 2)) refl
     where
       is-mark : (v : Bool) → takenAt d (mark / 2) ≡ v → isMark (axisOf (axesOf d) axis) mark ≡ v
@@ -156,3 +150,7 @@ keys-two f keys p {a} {b} l h ea eb k m =
     first = below-more (λ j. getD (set keys (2 * p) a) j 0 ≡ f j) (2 * p)
         (λ j n. getD-set-other keys (2 * p) j a 0 (λ q. omega arith) ∙ h j n)
         (getD-set-same keys (2 * p) a 0 (omega arith) ∙ ea)
+
+-- the keys of an axis are one list
+pub keys-once : {boxes places : List ℤ} {axis : ℕ} {k l : List ℕ} → KeysIn boxes places axis k → KeysIn boxes places axis l → k ≡ l
+keys-once {k} {l} x y = ext-getD 0 k l (x .long ∙ sym (y .long)) (λ i h. x .is i (omega (arith, x .long)) ∙ sym (y .is i (omega (arith, x .long))))

@@ -6,7 +6,7 @@ use mathlib.Core.Bool.{cond}
 use mathlib.Core.List.{List, [], _∷_}
 use lib.Dec.{eqb}
 use lib.IntN.{ℤ, pos, negℤ, natAbs, _+ℤ_}
-use lib.ListN.{getD}
+use lib.ListN.{length, getD}
 use lib.Signed.{ltZ}
 use Rattle.limits.specs.Limits
 use Rattle.limits.specs.Numbered.{Numbered}
@@ -14,7 +14,7 @@ use Rattle.ints.specs.Bounds.{Within}
 use Rattle.turns.specs.Turns.{placedAt}
 use Rattle.marks.specs.Keys.{keyFor, noKey}
 use Rattle.pieces.specs.Pieces.{Taken, takenIn, countIn, heldIn, turnIn, lesser, greater, leastTo, greatestTo}
-use Rattle.pieces.specs.declared.placed.Ends.{Ends}
+use Rattle.pieces_box.specs.declared.boxes.Ends.{Ends}
 use Rattle.pieces_box.specs.declared.boxes.ShapeBox.{ShapeBox}
 
 -- number `axis` of corner i of a shape
@@ -131,4 +131,5 @@ keyIn boxes places axis mark =
     noKey
 
 pub record KeysIn (boxes places : List ℤ) (axis : ℕ) (keys : List ℕ) : Type 0 where
+  pub long : length keys ≡ Limits.axisMarks
   pub is : (mark : ℕ) → mark < Limits.axisMarks → getD keys mark 0 ≡ keyIn boxes places axis mark

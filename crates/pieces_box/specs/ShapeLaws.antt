@@ -14,7 +14,7 @@ use Rattle.limits.specs.Limits
 use Rattle.pieces.specs.Pieces.{leastTo, greatestTo, lesser, greater}
 use Rattle.pieces.specs.Placed.{least-more, greatest-more}
 use Rattle.pieces.specs.Storing.{sets-at, sets-other}
-use Rattle.pieces.specs.declared.placed.Ends.{Ends}
+use Rattle.pieces_box.specs.declared.boxes.Ends.{Ends}
 use Rattle.pieces_box.specs.declared.boxes.ShapeBox.{ShapeBox}
 use Rattle.pieces_box.specs.ShapeBox.{onAxis, endsTo, boxTo, endsFrom, stretched, boxFrom, widened, boxCells, boxList, boxNumber, boxIn, BoxAt}
 use Rattle.pieces_box.specs.TurnedLaws.{ends-eq}

@@ -15,7 +15,7 @@ use Rattle.limits.specs.Limits
 use Rattle.turns.specs.Turns.{namedAxis, along, signedAxis, turnedAt, placedAt}
 use Rattle.pieces.specs.Pieces.{Store, shapeAt, turnAt, offsetAt, countAt, shapeValue, placedCorner, leastTo, greatestTo, lowAt, highAt}
 use Rattle.pieces.specs.Store.{least-same, greatest-same}
-use Rattle.pieces.specs.declared.placed.Ends.{Ends}
+use Rattle.pieces_box.specs.declared.boxes.Ends.{Ends}
 use Rattle.pieces_box.specs.declared.boxes.ShapeBox.{ShapeBox}
 use Rattle.pieces_box.specs.ShapeBox.{axisNumber, between, onAxis, endsTo, boxTo, boxOf, endsOn, opposed, endsAlong, movedBy}
 use Rattle.pieces_box.specs.EndsLaws.{le-plus, least-plus, greatest-plus, least-neg, greatest-neg}

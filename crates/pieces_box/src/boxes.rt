@@ -6,10 +6,14 @@ ghost use lib.ListN.{length};
 ghost use lib.Seq.{sets};
 ghost use Rattle.limits.specs.Limits;
 ghost use Rattle.pieces_box.specs.ShapeBox.{boxTo, boxFrom, stretched, widened, boxCells, boxList, boxIn, BoxAt, Boxed};
+ghost use Rattle.pieces.specs.Pieces.{lesser, greater};
 use pieces::index::index_of;
-use pieces::placed::Ends;
-use pieces::placed::greater;
-use pieces::placed::lesser;
+
+// The least and the greatest number on one axis.
+pub struct Ends {
+    pub low: i32,
+    pub high: i32,
+}
 
 // The ends on each axis.
 pub struct ShapeBox {
@@ -29,6 +33,24 @@ const NO_BOX: ShapeBox = ShapeBox {
     y: Ends { low: 0, high: 0 },
     z: Ends { low: 0, high: 0 },
 };
+
+fn lesser(a: i32, b: i32) -> i32
+    ensures { λ r. ⌜ r ≡ lesser a b ⌝ }
+{
+    if a < b {
+        return a;
+    }
+    b
+}
+
+fn greater(a: i32, b: i32) -> i32
+    ensures { λ r. ⌜ r ≡ greater a b ⌝ }
+{
+    if b < a {
+        return a;
+    }
+    b
+}
 
 // The ends with one number more.
 fn stretched(e: Ends, v: i32) -> Ends
@@ -127,7 +149,7 @@ fn put_box(boxes: &mut [i32; BOXES], shape: usize, b: ShapeBox)
 }
 
 // A box read from the table.
-pub(crate) fn box_in(boxes: &[i32; BOXES], shape: usize) -> ShapeBox
+pub fn box_in(boxes: &[i32; BOXES], shape: usize) -> ShapeBox
     requires { ⌜ shape < Limits.shapes ⌝ }
     ensures { λ r. ⌜ r ≡ boxIn (now (boxes .entry)) shape ⌝ }
 {

@@ -6,19 +6,14 @@ ghost use lib.ListN.{length};
 ghost use Rattle.limits.specs.Limits;
 ghost use Rattle.pieces_box.specs.ShapeBox.{between, endsIn, EndsAsked, AllAsked, keyIn, KeysIn};
 use crate::boxes::BOXES;
+use crate::boxes::Ends;
 use crate::boxes::box_in;
+use marks::MarkKeys;
 use marks::NO_KEY;
 use marks::mark_key;
 use pieces::index::index_of;
-use pieces::placed::Ends;
 use pieces::taking::is_taken;
 use turns::placed_axis;
-
-// The keys of a place's two marks.
-struct MarkKeys {
-    low: u32,
-    high: u32,
-}
 
 // The ends of two numbers, whichever is the less.
 fn between(u: i32, v: i32) -> Ends
@@ -59,7 +54,7 @@ fn ends_in(
 }
 
 // The keys of a place's two marks, above every other where it is empty.
-fn keys_at(
+pub fn keys_at(
     boxes: &[i32; BOXES],
     places: &[i32; limits::PLACES_LENGTH],
     place: usize,
@@ -84,22 +79,32 @@ fn keys_at(
     }
 }
 
-fn no_keys() -> [u32; limits::AXIS_MARKS]
+// No keys, for the commands to have worked out.
+pub fn no_keys() -> [u32; limits::AXIS_MARKS]
     ensures { λ r. ⌜ length r ≡ Limits.axisMarks ⌝ }
 {
     [NO_KEY; limits::AXIS_MARKS]
 }
 
-// The keys of one axis.
-pub fn keys_in(
+// The array's length, of which its type says nothing to a contract.
+fn sized_keys(keys: &[u32; limits::AXIS_MARKS]) -> usize
+    ensures { λ _. ⌜ length (now (keys .entry)) ≡ Limits.axisMarks ⌝ }
+{
+    let all = &keys[..];
+    all.len()
+}
+
+// The keys of one axis, whatever the array held.
+pub fn put_keys(
     boxes: &[i32; BOXES],
     places: &[i32; limits::PLACES_LENGTH],
     axis: usize,
-) -> [u32; limits::AXIS_MARKS]
+    keys: &mut [u32; limits::AXIS_MARKS],
+)
     requires { ⌜ AllAsked (now boxes) (now places) × (axis < 3) ⌝ }
-    ensures { λ r. ⌜ KeysIn (now (boxes .entry)) (now (places .entry)) axis r ⌝ }
+    ensures { λ _. ⌜ KeysIn (now (boxes .entry)) (now (places .entry)) axis (now (keys .exit)) ⌝ }
 {
-    let mut keys = no_keys();
+    sized_keys(keys);
     let mut place = 0;
     while place < limits::PLACES {
         let k = keys_at(boxes, places, place, axis);
@@ -109,5 +114,4 @@ pub fn keys_in(
         keys[2 * place + 1] = high;
         place += 1;
     }
-    keys
 }

@@ -19,6 +19,8 @@ use Rattle.limits.specs.Decides.{Decides}
 use Rattle.limits.specs.DecidesLaws.{decides-once}
 use Rattle.space.specs.Lists.{InReach}
 use Rattle.pieces.specs.IndexLaws.{some-decided}
+use Rattle.pieces_box.specs.ShapeBox.{boxOf, boxIn, Boxed, NearBox}
+use Rattle.pieces_box.specs.NearLaws.{near-box, box-near}
 use Rattle.pieces.specs.Pieces.{Store, storeOf, countIn, cornersOf, shapeValue, heldIn, turnIn, shapeAt, Taken, Loaded, ShapesInOrder, PlaceInOrder, PlacesInOrder, PiecesInOrder}
 
 -- ---- a part of a list of numbers
@@ -57,13 +59,20 @@ every-shape all = record { few = λ s h. all s h .few; near = λ s k h. all s h 
 pub one-shape : {d : Store} → ShapesInOrder d → (s : ℕ) → s < Limits.shapes → ShapeInOrder d s
 one-shape o s h = record { few = o .few s h; near = λ k. o .near s k h }
 
--- a shape that has few enough corners is in order where its numbers are near
-pub shape-decided : {r : Bool} (d : Store) (s count : ℕ) → Numbered (Limits.corners + 1) (countIn (d .shapes) s) → count ≡ cornersOf d s
-    → Decides r (NearFrom (d .shapes) (s * Limits.shapeCells + 1) (3 * count)) → Decides r (ShapeInOrder d s)
-shape-decided d s count few e n = record {
-  yes = λ t. record { few = few; near = λ k h. n .yes t .all k (omega arith) };
-  no = λ f o. n .no f (record { all = λ k h. o .near k (omega arith) });
+-- a shape without corners is in order
+pub shape-none : (d : Store) (s : ℕ) → Numbered (Limits.corners + 1) (countIn (d .shapes) s) → cornersOf d s ≡ 0 → ShapeInOrder d s
+shape-none d s few e = record { few = few; near = λ k h. absurd (omega arith) }
+
+-- a shape that has few enough corners is in order where its box is near
+pub shape-decided : {r : Bool} {boxes : List ℤ} (d : Store) (s : ℕ) → s < Limits.shapes → Boxed (d .shapes) boxes → Numbered (Limits.corners + 1) (countIn (d .shapes) s)
+    → (cornersOf d s ≡ 0 → ⊥) → Decides r (NearBox (boxIn boxes s)) → Decides r (ShapeInOrder d s)
+shape-decided {r} {boxes} d s h b few some n = record {
+  yes = λ t. record { few = few; near = box-near (d .shapes) s (cornersOf d s) (subst NearBox is (n .yes t)) };
+  no = λ f o. n .no f (subst NearBox (sym is) (near-box (d .shapes) s (cornersOf d s) (omega (arith, some)) (o .near)));
 }
+  where
+    is : boxIn boxes s ≡ boxOf (d .shapes) s
+    is = b .is s h few some
 
 -- the shapes do not ask what the places hold
 pub shapes-alone : {shapes p q : List ℤ} → ShapesInOrder (storeOf shapes p) → ShapesInOrder (storeOf shapes q)

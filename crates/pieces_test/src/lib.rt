@@ -7,31 +7,40 @@ ghost use lib.ListN.{length};
 ghost use Rattle.limits.specs.Limits;
 ghost use Rattle.limits.specs.Decides.{Decides};
 ghost use Rattle.pieces.specs.Pieces.{storeOf, Taken, Loaded, ShapesInOrder, PlaceInOrder, PlacesInOrder, PiecesInOrder, Sized};
+ghost use Rattle.pieces_box.specs.ShapeBox.{Boxed, NearEnds, NearBox};
 ghost use Rattle.pieces_test.specs.OrderTest.{NearFrom, ShapeInOrder, PlaceKept, PlacedInOrder};
 use pieces::index::index_of;
 use pieces::taking::is_taken;
+use pieces_box::boxes::BOXES;
+use pieces_box::boxes::Ends;
+use pieces_box::boxes::ShapeBox;
+use pieces_box::boxes::box_in;
 use space::in_reach;
+use space::near;
 
-// Whether shapes and places of any contents are in order.
+// Whether shapes and places of any contents are in order. The boxes are those of the shapes, so no corner is looked at.
 pub fn pieces_in_order(
     shapes: &[i32; limits::SHAPES_LENGTH],
     places: &[i32; limits::PLACES_LENGTH],
+    boxes: &[i32; BOXES],
 ) -> bool
+    requires { ⌜ Boxed (now shapes) (now boxes) ⌝ }
     ensures { λ r. ⌜ Decides r (PiecesInOrder (storeOf (now (shapes .entry)) (now (places .entry)))) ⌝ }
 {
-    if !shapes_in_order(shapes) {
+    if !shapes_in_order(shapes, boxes) {
         return false;
     }
     places_in_order(shapes, places)
 }
 
 // Whether every shape is in order. Left at the first that is not.
-fn shapes_in_order(shapes: &[i32; limits::SHAPES_LENGTH]) -> bool
+fn shapes_in_order(shapes: &[i32; limits::SHAPES_LENGTH], boxes: &[i32; BOXES]) -> bool
+    requires { ⌜ Boxed (now shapes) (now boxes) ⌝ }
     ensures { λ r. ⌜ Decides r (ShapesInOrder (storeOf (now (shapes .entry)) [])) ⌝ }
 {
     let mut shape: usize = 0;
     while shape < limits::SHAPES {
-        if !shape_in_order(shapes, shape) {
+        if !shape_in_order(shapes, boxes, shape) {
             return false;
         }
         shape += 1;
@@ -39,16 +48,46 @@ fn shapes_in_order(shapes: &[i32; limits::SHAPES_LENGTH]) -> bool
     true
 }
 
-// Whether a shape has no more corners than it may, and none beyond the reach. A shape that is not loaded has none.
-fn shape_in_order(shapes: &[i32; limits::SHAPES_LENGTH], shape: usize) -> bool
-    requires { ⌜ shape < Limits.shapes ⌝ }
+// Whether a shape has no more corners than it may, and none beyond the reach, which its box decides. A shape that is not loaded has none.
+fn shape_in_order(shapes: &[i32; limits::SHAPES_LENGTH], boxes: &[i32; BOXES], shape: usize) -> bool
+    requires { ⌜ Boxed (now shapes) (now boxes) × (shape < Limits.shapes) ⌝ }
     ensures { λ r. ⌜ Decides r (ShapeInOrder (storeOf (now (shapes .entry)) []) shape) ⌝ }
 {
     let count = index_of(shapes[shape * limits::SHAPE_CELLS], limits::CORNERS + 1);
     if limits::CORNERS < count {
         return false;
     }
-    part_near(&shapes[..], shape * limits::SHAPE_CELLS + 1, 3 * count)
+    if count == 0 {
+        return true;
+    }
+    box_near(box_in(boxes, shape))
+}
+
+// Whether a box is within the reach of shapes.
+fn box_near(b: ShapeBox) -> bool
+    ensures { λ r. ⌜ Decides r (NearBox b) ⌝ }
+{
+    let on_x = b.x;
+    let on_y = b.y;
+    let on_z = b.z;
+    if !ends_near(on_x) {
+        return false;
+    }
+    if !ends_near(on_y) {
+        return false;
+    }
+    ends_near(on_z)
+}
+
+fn ends_near(e: Ends) -> bool
+    ensures { λ r. ⌜ Decides r (NearEnds e) ⌝ }
+{
+    let low = e.low;
+    let high = e.high;
+    if !near(low, limits::SHAPE_REACH) {
+        return false;
+    }
+    near(high, limits::SHAPE_REACH)
 }
 
 // Whether every taken place is in order. Left at the first that is not.

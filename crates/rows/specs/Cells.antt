@@ -1,17 +1,12 @@
 -- Laws of the cells: a cell is the row of one pair of places only, and rows are in order cell by cell.
--- With them the tests of one cell, of one pair and of one place decide what they are to decide.
+-- With them a test of all cells decides the order of the rows.
 use Prim.Native.Nat.{ℕ, zero, suc, _/_, _%_, _<_}
-use mathlib.Core.Path.{_≡_, refl, sym, ap, _∙_, subst}
+use mathlib.Core.Path.{_≡_, refl, sym, _∙_, subst}
 use mathlib.Core.List.{List, [], _∷_}
-use mathlib.Core.Bool.{Bool, true, false, not}
 use native.Mathlib.Omega.{arith}
-use lib.Dec.{eqb, ltb}
 use lib.ListN.{length, getD}
 use lib.IntN.{ℤ}
-use borrow.Author.Tests.{ltb-true, ltb-false, eqb-true, eqb-false}
 use Rattle.limits.specs.Limits
-use Rattle.limits.specs.Decides.{Decides}
-use Rattle.limits.specs.DecidesLaws.{holds, fails}
 use Rattle.rows.specs.Rows.{PairOf, cell, rowAt, Verdict, RowsInOrder}
 
 -- within a list, what would stand behind its end does not matter
@@ -41,10 +36,13 @@ pub record CellInOrder (places : List ℤ) (low high v : ℕ) : Type 0 where
   pub pair : PairOf places low high → Verdict v
   pub other : (PairOf places low high → ⊥) → v ≡ Limits.noRow
 
--- rows are in order when each of their cells is
-pub every-cell : {places : List ℤ} (rows : List ℕ) → length rows ≡ Limits.rows
-    → ((k : ℕ) → k < Limits.rows → CellInOrder places (k / Limits.places) (k % Limits.places) (getD rows k 0)) → RowsInOrder places rows
-every-cell {places} rows n all = record {
+-- what the line of one lower place may hold
+abbrev pub LineInOrder : List ℤ → List ℕ → ℕ → Type 0
+LineInOrder places rows low = (high : ℕ) → high < Limits.places → CellInOrder places low high (getD rows (cell low high) 0)
+
+-- rows are in order when each of their lines is, and then each is
+pub every-line : {places : List ℤ} (rows : List ℕ) → length rows ≡ Limits.rows → ((low : ℕ) → low < Limits.places → LineInOrder places rows low) → RowsInOrder places rows
+every-line {places} rows n all = record {
   size = n;
   pairs = λ low high p. at low high (p .first .place) (p .second .place) .pair p;
   others = λ low high h k. at low high h k .other;
@@ -54,29 +52,17 @@ every-cell {places} rows n all = record {
     at low high h k =
         let q = cell-below h k in
         let e : getD rows (cell low high) 0 ≡ rowAt rows low high = getD-within rows (cell low high) 0 Limits.noRow (omega arith) in
-        rw (low-of low high k, high-of low high k, e) at (all (cell low high) q)
+        rw e at (all low h high k)
+
+pub each-line : {places : List ℤ} {rows : List ℕ} → RowsInOrder places rows → (low : ℕ) → low < Limits.places → LineInOrder places rows low
+each-line {places} {rows} o low h high k =
+    let n = o .size in
+    let q = cell-below h k in
+    let e : rowAt rows low high ≡ getD rows (cell low high) 0 = getD-within rows (cell low high) Limits.noRow 0 (omega arith) in
+    record { pair = λ p. subst Verdict e (o .pairs low high p); other = λ p. sym e ∙ o .others low high h k p }
 
 pub one-cell : {places : List ℤ} {rows : List ℕ} → RowsInOrder places rows → (k : ℕ) → k < Limits.rows
     → CellInOrder places (k / Limits.places) (k % Limits.places) (getD rows k 0)
 one-cell {places} {rows} o k h =
-    let n = o .size in
-    let e : rowAt rows (k / Limits.places) (k % Limits.places) ≡ getD rows k 0 = ap (λ (i : ℕ). getD rows i Limits.noRow) (cell-of k) ∙ getD-within rows k Limits.noRow 0 (omega arith) in
-    record {
-      pair = λ p. subst Verdict e (o .pairs _ _ p);
-      other = λ p. sym e ∙ o .others _ _ (omega arith) (omega arith) p;
-    }
-
--- the tests of a cell, where its places are a pair and where not
-pub verdict-decided : {places : List ℤ} {low high : ℕ} (v w : ℕ) → w ≡ v → PairOf places low high → Decides (ltb w Limits.tallies) (CellInOrder places low high v)
-verdict-decided {places} {low} {high} v w e p = go (ltb w Limits.tallies) refl
-  where
-    go : (b : Bool) → ltb w Limits.tallies ≡ b → Decides b (CellInOrder places low high v)
-    go true t = let h = ltb-true w Limits.tallies t in holds refl (record { pair = λ _. omega arith; other = λ f. absurd (f p) })
-    go false t = let h = ltb-false w Limits.tallies t in fails refl (λ o. let k = o .pair p in omega arith)
-
-pub no-row-decided : {places : List ℤ} {low high : ℕ} (v : ℕ) → (PairOf places low high → ⊥) → Decides (eqb v Limits.noRow) (CellInOrder places low high v)
-no-row-decided {places} {low} {high} v p = go (eqb v Limits.noRow) refl
-  where
-    go : (b : Bool) → eqb v Limits.noRow ≡ b → Decides b (CellInOrder places low high v)
-    go true t = holds refl (record { pair = λ q. absurd (p q); other = λ _. eqb-true v Limits.noRow t })
-    go false t = fails refl (λ o. eqb-false v Limits.noRow t (o .other p))
+    subst (λ (i : ℕ). CellInOrder places (k / Limits.places) (k % Limits.places) (getD rows i 0)) (cell-of k)
+    (each-line o (k / Limits.places) (omega arith) (k % Limits.places) (omega arith))

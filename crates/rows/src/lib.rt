@@ -1,13 +1,17 @@
 // The rows of a desk as a lent array (document 01, "Rows"): their order and their changes.
 // The row of the places low < high stands at low * PLACES + high; every other cell holds NO_ROW.
 ghost use mathlib.Core.Path.{_≡_};
-ghost use Prim.Native.Nat.{_<_, _/_, _%_};
-ghost use lib.ListN.{length, replicate};
+ghost use Prim.Native.Nat.{ℕ, _<_};
+ghost use lib.Dec.{eqb};
+ghost use lib.ListN.{length, getD, replicate};
 ghost use Rattle.limits.specs.Limits;
 ghost use Rattle.limits.specs.Decides.{Decides};
-ghost use Rattle.rows.specs.Rows.{PairOf, RowsInOrder, Cleared, RowPut};
-ghost use Rattle.rows.specs.Cells.{CellInOrder};
+ghost use Rattle.rows.specs.Masks.{MaskByte, MaskOf, MaskFrom, LineMasked};
+ghost use Rattle.rows.specs.Rows.{RowsInOrder};
 use pieces::taking::is_taken;
+
+// The bits that no verdict has.
+const BEYOND_VERDICTS: u8 = limits::NO_ROW - limits::PENETRATING;
 
 // No rows at all, and every tally 0.
 pub fn start_rows(rows: &mut [u8; limits::ROWS], book: &mut [u32; limits::BOOK])
@@ -18,67 +22,70 @@ pub fn start_rows(rows: &mut [u8; limits::ROWS], book: &mut [u32; limits::BOOK])
     *book = [0u32; limits::BOOK];
 }
 
-// Whether each pair of taken places has a verdict and no other pair has one. Left at the first wrong cell.
+// Whether each pair of taken places has a verdict and no other pair has one. What is wrong is gathered as bits and looked at once: a loop with
+// no way out of its body handles many cells at a time. A place is shut before its line is tested, so that only higher ones may come second.
 pub fn rows_in_order(places: &[i32; limits::PLACES_LENGTH], rows: &[u8; limits::ROWS]) -> bool
     ensures { λ r. ⌜ Decides r (RowsInOrder (now (places .entry)) (now (rows .entry))) ⌝ }
 {
     sized_rows(rows);
-    let mut k: usize = 0;
-    while k < limits::ROWS {
-        if !cell_in_order(places, k, rows[k]) {
-            return false;
-        }
-        k += 1;
+    let mut mask = taken_mask(places);
+    let mut wrong: u8 = 0;
+    let mut low: usize = 0;
+    while low < limits::PLACES {
+        let own = mask[low];
+        mask[low] = limits::NO_ROW;
+        wrong = wrong | wrong_in_line(rows, &mask, low, own);
+        low += 1;
     }
-    true
+    wrong == 0
 }
 
-// Whether the cell k may hold v.
-fn cell_in_order(places: &[i32; limits::PLACES_LENGTH], k: usize, v: u8) -> bool
-    requires { ⌜ k < Limits.rows ⌝ }
-    ensures { λ r. ⌜ Decides r (CellInOrder (now (places .entry)) (k / Limits.places) (k % Limits.places) v) ⌝ }
+// What is wrong in the line of the place low, 0 where nothing is: a cell holds a verdict where its mask and the place's own are 0, and else no row.
+fn wrong_in_line(rows: &[u8; limits::ROWS], mask: &[u8; limits::PLACES], low: usize, own: u8) -> u8
+    requires { ⌜ (low < Limits.places) × MaskByte own × ((i : ℕ) → i < Limits.places → MaskByte (getD (now mask) i 0)) ⌝ }
+    ensures { λ r. ⌜ Decides (eqb r 0) (LineMasked (now (mask .entry)) own low (now (rows .entry)) Limits.places) ⌝ }
 {
-    if is_pair(places, k / limits::PLACES, k % limits::PLACES) {
-        return wide(v) < limits::TALLIES;
+    let cells = &rows[..];
+    let bytes = &mask[..];
+    let mut wrong: u8 = 0;
+    let mut high: usize = 0;
+    while high < limits::PLACES {
+        let v = cells[low * limits::PLACES + high];
+        let m = bytes[high] | own;
+        wrong = wrong | ((v ^ m) & (m | BEYOND_VERDICTS));
+        high += 1;
     }
-    v == limits::NO_ROW
+    wrong
 }
 
-// Whether two places are a pair of taken ones, the lower first.
-fn is_pair(places: &[i32; limits::PLACES_LENGTH], low: usize, high: usize) -> bool
-    requires { ⌜ (low < Limits.places) × (high < Limits.places) ⌝ }
-    ensures { λ r. ⌜ Decides r (PairOf (now (places .entry)) low high) ⌝ }
+// A byte for each place: 0 where it is taken, and else NO_ROW.
+fn taken_mask(places: &[i32; limits::PLACES_LENGTH]) -> [u8; limits::PLACES]
+    ensures { λ r. ⌜ MaskFrom (now (places .entry)) 0 r ⌝ }
 {
-    if high <= low {
-        return false;
+    let mut mask = no_mask();
+    let mut place: usize = 0;
+    while place < limits::PLACES {
+        let m = mask_of(places, place);
+        mask[place] = m;
+        place += 1;
     }
-    if !is_taken(places, low) {
-        return false;
-    }
-    is_taken(places, high)
+    mask
 }
 
-// Every row that names a place taken away.
-pub fn clear_place(rows: &mut [u8; limits::ROWS], place: usize)
+fn mask_of(places: &[i32; limits::PLACES_LENGTH], place: usize) -> u8
     requires { ⌜ place < Limits.places ⌝ }
-    ensures { λ _. ⌜ Cleared place (now (rows .entry)) (now (rows .exit)) ⌝ }
+    ensures { λ r. ⌜ MaskOf (now (places .entry)) place r ⌝ }
 {
-    sized_rows(rows);
-    let mut other: usize = 0;
-    while other < limits::PLACES {
-        rows[place * limits::PLACES + other] = limits::NO_ROW;
-        rows[other * limits::PLACES + place] = limits::NO_ROW;
-        other += 1;
+    if is_taken(places, place) {
+        return 0;
     }
+    limits::NO_ROW
 }
 
-// The row of a pair set.
-pub fn put_row(rows: &mut [u8; limits::ROWS], low: usize, high: usize, v: u8)
-    requires { ⌜ (low < high) × (high < Limits.places) ⌝ }
-    ensures { λ _. ⌜ RowPut low high v (now (rows .entry)) (now (rows .exit)) ⌝ }
+fn no_mask() -> [u8; limits::PLACES]
+    ensures { λ r. ⌜ length r ≡ Limits.places ⌝ }
 {
-    sized_rows(rows);
-    rows[low * limits::PLACES + high] = v;
+    [limits::NO_ROW; limits::PLACES]
 }
 
 pub fn wide(v: u8) -> usize

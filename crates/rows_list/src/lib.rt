@@ -28,22 +28,22 @@ pub fn list_contacts(rows: &[u8; limits::ROWS], room: &mut [u8]) -> Listed
     Listed::Rows(n as u32)
 }
 
-// How many rows are contacts.
+// How many rows are contacts. Sixteen bits hold their number, and let more cells be counted at a time.
 fn count_contacts(rows: &[u8; limits::ROWS]) -> usize
     ensures bytes { λ r. ⌜ length (contacts (now (rows .entry))) ≡ 3 * r ⌝ }
     ensures most { λ r. ⌜ r ≤ Limits.rows ⌝ }
 {
     sized_rows(rows);
-    let mut n: usize = 0;
+    let mut n: u16 = 0;
     let mut k: usize = 0;
     while k < limits::ROWS {
         n += one_if_contact(rows[k]);
         k += 1;
     }
-    n
+    n as usize
 }
 
-fn one_if_contact(v: u8) -> usize
+fn one_if_contact(v: u8) -> u16
     ensures { λ r. ⌜ r ≡ oneIf (contact v) ⌝ }
 {
     if v == limits::TOUCHING {

@@ -1,33 +1,39 @@
 // The rows of a handled piece: each worked out anew, by the boxes first and else by the verdict of the two pieces.
-// The lower place is the first piece.
+// The lower place is the first piece. The tallies follow each row that is put.
 ghost use mathlib.Core.Path.{_≡_};
 ghost use Prim.Native.Nat.{_<_};
 ghost use Rattle.limits.specs.Limits;
+ghost use Rattle.marks.specs.Keys.{KeyedMarks};
 ghost use Rattle.rows.specs.Rows.{Handled};
-ghost use Rattle.pieces.specs.Pieces.{storeOf, pieceAt};
+ghost use Rattle.rows_tally.specs.Tallies.{BookInOrder};
+ghost use Rattle.pieces.specs.Pieces.{storeOf, axesOf, pieceAt};
 ghost use Rattle.pieces.specs.Boxes.{PlacedPiece};
 ghost use Rattle.verdict.specs.Answers.{Carries};
 ghost use Rattle.rows_right.specs.Right.{RowRight};
 ghost use Rattle.rows_right.specs.RowLaws.{OneMore};
-use pieces::placed::boxes_apart;
 use pieces::placed::piece_count;
 use pieces::placed::piece_numbers;
 use pieces::taking::is_taken;
-use rows::put_row;
+use pieces_box::apart::boxes_apart;
+use rows_tally::put_row;
 use verdict::Answer;
 use verdict::verdict;
 
-// The right row of two taken places.
+// The right row of two taken places; x, y and z are the keys of the marks.
 fn row_of(
     shapes: &[i32; limits::SHAPES_LENGTH],
     places: &[i32; limits::PLACES_LENGTH],
+    x: &[u32; limits::AXIS_MARKS],
+    y: &[u32; limits::AXIS_MARKS],
+    z: &[u32; limits::AXIS_MARKS],
     low: usize,
     high: usize,
 ) -> u8
     requires { ⌜ PlacedPiece (storeOf (now shapes) (now places)) low × PlacedPiece (storeOf (now shapes) (now places)) high ⌝ }
+    requires { ⌜ KeyedMarks (axesOf (storeOf (now shapes) (now places))) (now x) (now y) (now z) ⌝ }
     ensures { λ r. ⌜ RowRight (storeOf (now (shapes .entry)) (now (places .entry))) low high r ⌝ }
 {
-    if boxes_apart(shapes, places, low, high) {
+    if boxes_apart(x, y, z, low, high) {
         return limits::APART;
     }
     let answer = verdict_of(shapes, places, low, high);
@@ -51,19 +57,25 @@ pub fn verdict_of(
     verdict(&a[..3 * n], &b[..3 * m])
 }
 
-// The rows of the piece at a place with every other taken place.
+// The rows of the piece at a place with every other taken place; x, y and z are the keys of the marks.
 pub fn put_rows(
     shapes: &[i32; limits::SHAPES_LENGTH],
     places: &[i32; limits::PLACES_LENGTH],
     rows: &mut [u8; limits::ROWS],
+    book: &mut [u32; limits::BOOK],
+    x: &[u32; limits::AXIS_MARKS],
+    y: &[u32; limits::AXIS_MARKS],
+    z: &[u32; limits::AXIS_MARKS],
     place: usize,
 )
-    requires { ⌜ PlacedPiece (storeOf (now shapes) (now places)) place ⌝ }
-    ensures { λ _. ⌜ Handled (RowRight (storeOf (now (shapes .entry)) (now (places .entry)))) (now (places .entry)) place Limits.places (now (rows .entry)) (now (rows .exit)) ⌝ }
+    requires { ⌜ PlacedPiece (storeOf (now shapes) (now places)) place × BookInOrder (now rows) (now book) ⌝ }
+    requires { ⌜ KeyedMarks (axesOf (storeOf (now shapes) (now places))) (now x) (now y) (now z) ⌝ }
+    ensures rows { λ _. ⌜ Handled (RowRight (storeOf (now (shapes .entry)) (now (places .entry)))) (now (places .entry)) place Limits.places (now (rows .entry)) (now (rows .exit)) ⌝ }
+    ensures book { λ _. ⌜ BookInOrder (now (rows .exit)) (now (book .exit)) ⌝ }
 {
     let mut other = 0;
     while other < limits::PLACES {
-        put_pair(shapes, places, rows, place, other);
+        put_pair(shapes, places, rows, book, x, y, z, place, other);
         other += 1;
     }
 }
@@ -73,21 +85,27 @@ fn put_pair(
     shapes: &[i32; limits::SHAPES_LENGTH],
     places: &[i32; limits::PLACES_LENGTH],
     rows: &mut [u8; limits::ROWS],
+    book: &mut [u32; limits::BOOK],
+    x: &[u32; limits::AXIS_MARKS],
+    y: &[u32; limits::AXIS_MARKS],
+    z: &[u32; limits::AXIS_MARKS],
     place: usize,
     other: usize,
 )
-    requires { ⌜ PlacedPiece (storeOf (now shapes) (now places)) place × (other < Limits.places) ⌝ }
-    ensures { λ _. ⌜ OneMore (storeOf (now (shapes .entry)) (now (places .entry))) place other (now (rows .entry)) (now (rows .exit)) ⌝ }
+    requires { ⌜ PlacedPiece (storeOf (now shapes) (now places)) place × BookInOrder (now rows) (now book) × (other < Limits.places) ⌝ }
+    requires { ⌜ KeyedMarks (axesOf (storeOf (now shapes) (now places))) (now x) (now y) (now z) ⌝ }
+    ensures rows { λ _. ⌜ OneMore (storeOf (now (shapes .entry)) (now (places .entry))) place other (now (rows .entry)) (now (rows .exit)) ⌝ }
+    ensures book { λ _. ⌜ BookInOrder (now (rows .exit)) (now (book .exit)) ⌝ }
 {
     if is_taken(places, other) {
         if other < place {
-            let v = row_of(shapes, places, other, place);
-            put_row(rows, other, place, v);
+            let v = row_of(shapes, places, x, y, z, other, place);
+            put_row(rows, book, other, place, v);
             return;
         }
         if place < other {
-            let v = row_of(shapes, places, place, other);
-            put_row(rows, place, other, v);
+            let v = row_of(shapes, places, x, y, z, place, other);
+            put_row(rows, book, place, other, v);
         }
     }
 }

@@ -1,3 +1,4 @@
-pub mod Tallies
 pub mod Counting
+pub mod Following
 pub mod Sums
+pub mod Tallies

@@ -1,8 +1,9 @@
 -- The tallies of a desk, in the words of document 01, "Rows": how many rows hold each verdict, and how many places are taken.
 -- The first four cells of the book are the tallies of the verdicts 0 to 3.
-use Prim.Native.Nat.{ℕ, _≤_}
+use Prim.Native.Nat.{ℕ, _+_, _≤_}
 use mathlib.Core.Path.{_≡_}
 use mathlib.Core.List.{List}
+use lib.Dec.{eqb}
 use lib.IntN.{ℤ}
 use lib.ListN.{length, getD}
 use Rattle.limits.specs.Limits
@@ -15,6 +16,12 @@ pub record BookInOrder (rows book : List ℕ) : Type 0 where
   pub size : length book ≡ Limits.book
   pub counts : (v : ℕ) → Verdict v → getD book v 0 ≡ countOf v rows
   pub rest : (k : ℕ) → Limits.tallies ≤ k → getD book k 0 ≡ 0
+
+-- a book with one row more, which holds v: a verdict counts in its own tally, and anything else in none
+pub record Counted (v : ℕ) (before after : List ℕ) : Type 0 where
+  pub size : length after ≡ length before
+  pub counts : (w : ℕ) → Verdict w → getD after w 0 ≡ getD before w 0 + oneIf (eqb v w)
+  pub rest : (k : ℕ) → Limits.tallies ≤ k → getD after k 0 ≡ getD before k 0
 
 -- "with n places taken": how many are
 abbrev pub oneIfTaken : List ℤ → ℕ → ℕ

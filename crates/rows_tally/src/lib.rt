@@ -1,14 +1,20 @@
-// The tallies of a desk as a lent array, its book (document 01, "Rows"): whether they count the rows, and counted afresh.
+// The tallies of a desk as a lent array, its book (document 01, "Rows"): whether they count the rows, counted afresh, and followed as rows change.
 // A verdict is counted in the cell of its number; the rest of the book is 0.
 ghost use mathlib.Core.Path.{_≡_};
-ghost use Prim.Native.Nat.{_<_};
-ghost use lib.ListN.{length, getD};
+ghost use Prim.Native.Nat.{_+_, _<_};
+ghost use lib.Dec.{eqb};
+ghost use lib.ListN.{length, take};
 ghost use Rattle.limits.specs.Limits;
 ghost use Rattle.limits.specs.Decides.{Decides};
+ghost use Rattle.ints.specs.Counts.{oneIf, countOf};
+ghost use Rattle.rows.specs.Rows.{cell};
 ghost use Rattle.rows_tally.specs.Tallies.{BookInOrder};
-ghost use Rattle.rows_tally.specs.Counting.{counted};
 use rows::sized_rows;
-use rows::wide;
+
+mod changes;
+
+pub use changes::clear_place;
+pub use changes::put_row;
 
 // Whether the tallies count the rows, and the rest of the book is 0.
 pub fn book_in_order(rows: &[u8; limits::ROWS], book: &[u32; limits::BOOK]) -> bool
@@ -36,27 +42,51 @@ fn same_book(a: &[u32; limits::BOOK], b: &[u32; limits::BOOK]) -> bool
 }
 
 // The tallies counted afresh, whatever the book held.
-pub fn recount(rows: &[u8; limits::ROWS], book: &mut [u32; limits::BOOK])
+fn recount(rows: &[u8; limits::ROWS], book: &mut [u32; limits::BOOK])
     ensures { λ _. ⌜ BookInOrder (now (rows .entry)) (now (book .exit)) ⌝ }
 {
-    sized_rows(rows);
     *book = [0u32; limits::BOOK];
-    let mut k: usize = 0;
-    while k < limits::ROWS {
-        count_row(book, rows[k]);
-        k += 1;
+    let mut verdict: usize = 0;
+    while verdict < limits::TALLIES {
+        let n = tally_of(rows, verdict as u8);
+        book[verdict] = n;
+        verdict += 1;
     }
 }
 
-// One row more in the book: a verdict counts, and anything else does not.
-fn count_row(book: &mut [u32; limits::BOOK], v: u8)
-    requires { ⌜ getD (now book) v 0 < Limits.rows ⌝ }
-    ensures { λ _. ⌜ now (book .exit) ≡ counted v (now (book .entry)) ⌝ }
+// How many rows hold a verdict, added up line by line.
+fn tally_of(rows: &[u8; limits::ROWS], verdict: u8) -> u32
+    ensures { λ r. ⌜ r ≡ countOf verdict (now (rows .entry)) ⌝ }
 {
-    let verdict = wide(v);
-    if verdict < limits::TALLIES {
-        book[verdict] += 1;
+    sized_rows(rows);
+    let mut n: u32 = 0;
+    let mut low: usize = 0;
+    while low < limits::PLACES {
+        n += tally_in_line(rows, low, verdict) as u32;
+        low += 1;
     }
+    n
+}
+
+// How many rows of the line of a place hold a verdict. A line's number fits a byte, so that many cells are counted at a time.
+fn tally_in_line(rows: &[u8; limits::ROWS], low: usize, verdict: u8) -> u8
+    requires { ⌜ low < Limits.places ⌝ }
+    ensures { λ r. ⌜ countOf verdict (take (cell low Limits.places) (now (rows .entry))) ≡ countOf verdict (take (cell low 0) (now (rows .entry))) + r ⌝ }
+{
+    sized_rows(rows);
+    let mut n: u8 = 0;
+    let mut high: usize = 0;
+    while high < limits::PLACES {
+        n += one_if_same(rows[low * limits::PLACES + high], verdict);
+        high += 1;
+    }
+    n
+}
+
+fn one_if_same(v: u8, w: u8) -> u8
+    ensures { λ r. ⌜ r ≡ oneIf (eqb v w) ⌝ }
+{
+    if v == w { 1 } else { 0 }
 }
 
 fn sized_book(book: &[u32; limits::BOOK]) -> usize

@@ -19,6 +19,10 @@ pairReach = 532480
 abbrev pub shiftReach : ℕ
 shiftReach = 798720
 
+-- 2H²: a product of two points
+abbrev pub edgeReach : ℕ
+edgeReach = 141767475200
+
 -- 12H²: a product of a difference and a shift
 abbrev pub crossReach : ℕ
 crossReach = 850604851200

@@ -26,7 +26,7 @@ use Rattle.verdict_portal.specs.declared.Three.{Three}
 use Rattle.verdict_portal.specs.Portal.{ZeroSum, depth, cramer}
 use Rattle.verdict_portal.specs.Sizes.{bigK, posK, front-under, start, start-flipped, start-shifted, plain, plain-nn}
 use Rattle.verdict_portal.specs.Round.{Setting, PortalHeld, Met}
-use Rattle.verdict_portal.specs.Exits.{sum3, w1, w2, wall-some}
+use Rattle.verdict_portal.specs.Exits.{sum3, w1, w2, wall-some, e1}
 use Rattle.verdict_portal.specs.Flat.{Drops, f4}
 use Rattle.verdict_walk.specs.declared.support.Difference.{Difference}
 use Rattle.verdict_walk.specs.declared.path.Portal.{Portal}
@@ -41,9 +41,13 @@ use Rattle.verdict_walk.specs.EndLaws.{point-upto}
 use Rattle.verdict_frame.specs.Frames.{Framed, Dropping, framePlaces, FirstPortal}
 use Rattle.verdict_frame.specs.FrameLaws.{origin-upto}
 use Rattle.verdict_walk.specs.Gather.{baseOf, Gather, Weighed}
-use Rattle.verdict_walk.specs.GatherLaws.{weight-within, minus-within, none-at, gather-none, gather-more, count-grows}
+use Rattle.verdict_walk.specs.GatherLaws.{weight-within, minus-within, none-at, gather-none, gather-more, count-grows, FourWeigh, four-weigh}
 use Rattle.verdict.specs.declared.Answer.{Answer}
 use Rattle.verdict.specs.Answers.{nothing, BadLength, OutOfReach, Carries, Answers}
+
+-- what is not negative and not 0 is positive
+above-zero : {w : ℤ} → pos 0 ≤ℤ w → (w ≡ pos 0 → ⊥) → pos 0 <ℤ w
+above-zero {w} h f = ⊎-elim (λ l. absurd (clashℤ l h)) (⊎-elim (λ l. absurd (f l)) (λ l. l)) (trichotomy w (pos 0))
 
 -- ---- what the walks of a frame begin with
 module _ {A B : Piece} {f : Frame} (pa : Placed A) (pb : Placed B) (k : Framed A B f) where
@@ -62,13 +66,10 @@ module _ {A B : Piece} {f : Frame} (pa : Placed A) (pb : Placed B) (k : Framed A
   pub begun-strict : {q : Vec3} {v : Three} {t : Portal} → q ≡ origin → v ≡ framePlaces f → FirstPortal f t → Begun A B (f .widths) q v t
   begun-strict {q} {v} {t} eq ev s = subst (λ w. Begun A B (f .widths) w v t) (sym eq) (subst (λ w. Begun A B (f .widths) origin w t) (sym ev) (⊎-elim
       (λ h. subst (Begun A B (f .widths) origin (framePlaces f)) (sym (h .1)) (first (h .0)))
-      (λ h. subst (Begun A B (f .widths) origin (framePlaces f)) (sym (h .1)) (second (above (h .0)))) s))
+      (λ h. subst (Begun A B (f .widths) origin (framePlaces f)) (sym (h .1)) (second (above-zero (h .0) (k .free)))) s))
     where
       o : Upto shiftReach origin
       o = origin-upto shiftReach
-
-      above : pos 0 ≤ℤ det (f .a .at) (f .b .at) (f .c .at) → pos 0 <ℤ det (f .a .at) (f .b .at) (f .c .at)
-      above h = ⊎-elim (λ l. absurd (clashℤ l h)) (⊎-elim (λ l. absurd (k .free l)) (λ l. l)) (trichotomy (det (f .a .at) (f .b .at) (f .c .at)) (pos 0))
 
       first : det (f .a .at) (f .b .at) (f .c .at) <ℤ pos 0 → Begun A B (f .widths) origin (framePlaces f) (record { a = f .a; b = f .b; c = f .c })
       first d = record {
@@ -295,6 +296,32 @@ carries-penetrating {g} h w = record {
   four = w .four;
   rest = w .rest;
 }
+
+-- ---- E1: where four points weigh something, and the difference is nowhere flat
+pub penetrating-at-once : {A B : Piece} {f : Frame} {e : Ended} {r : Gathered} (k : Framed A B f) → f .solid ≡ true → Walked A B (f .widths) origin (framePlaces f) e → e .met ≡ true → Weighed e r
+    → r .count ≡ 4 → (d : Vec3) → Supported d A B → ⊥
+penetrating-at-once {A} {B} {f} {e} k solid w t h n d s =
+    e1 (plainly (w .last)) (plainly (w .begun .ofa)) (plainly (w .begun .ofb)) (plainly (w .begun .ofc)) (plain a b c (f .a .at) (f .b .at) (f .c .at) (w .begun .held .inv) .hp)
+    (above-zero (plain-nn p b c (w .met t .w1)) (four .second)) (above-zero (plain-nn a p c (w .met t .w2)) (four .third)) (above-zero (plain-nn a b p (w .met t .w3)) (four .fourth))
+    (cramer a b c p) (λ z. four .first (ap (λ u. pos 0 -ℤ u) z)) d (record { flat = walled-by d (s .above); some = s .nonzero })
+  where
+    p : Vec3
+    p = e .last .at
+
+    a : Vec3
+    a = e .portal .a .at
+
+    b : Vec3
+    b = e .portal .b .at
+
+    c : Vec3
+    c = e .portal .c .at
+
+    four : FourWeigh e
+    four = four-weigh h n
+
+    plainly : {y : Difference} → Tagged A B (f .widths) y → Spread A B origin (y .at)
+    plainly {y} m = subst (λ g. Spread A B g (y .at)) (k .thin solid) (spread-of m)
 
 -- ---- the weak walk's ends, where the difference is nowhere flat
 module _ {A B : Piece} {f : Frame} {q : Vec3} {v : Three} {e : Ended} (pa : Placed A) (pb : Placed B) (k : Framed A B f)

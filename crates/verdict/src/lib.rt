@@ -64,6 +64,7 @@ fn meeting_with(verdict: u8, direction: Vec3, k: Gathered) -> Answer
 }
 
 // The verdict of two pieces that meet at e, whose difference has the frame f.
+// Where four points weigh something the origin is inside of them, and no second walk is made.
 fn meeting_verdict(f: Frame, e: Ended, first: &[i32], second: &[i32]) -> Answer
     requires { ⌜ Placed (now first) × Placed (now second) ⌝ }
     requires { ⌜ MeetingAt (now first) (now second) f e ⌝ }
@@ -72,6 +73,10 @@ fn meeting_verdict(f: Frame, e: Ended, first: &[i32], second: &[i32]) -> Answer
     let k = gathered_of(e);
     let solid = f.solid;
     if solid {
+        let count = k.count;
+        if count == 4 {
+            return meeting_with(limits::PENETRATING, no_direction(), k);
+        }
         let v = frame_places(f);
         let t = e.portal;
         let g = f.widths;

@@ -33,7 +33,7 @@ use Rattle.verdict_frame.specs.declared.frame.Frame.{Frame}
 use Rattle.verdict_frame.specs.declared.frame.Found.{Found}
 use Rattle.verdict_walk.specs.Points.{Tagged, Box}
 use Rattle.verdict_walk.specs.PointLaws.{ones-signs, some-corner, plain-at, corner-upto}
-use Rattle.verdict_walk.specs.GatherLaws.{zero-bits}
+use Rattle.verdict_portal.specs.Rounds.{zero-bits}
 use Rattle.verdict_frame.specs.Frames.{differenceAt, Level, Rows, pickLeft, pickRight, leftAt, rightAt, scanned, AllLevel, Sought, ScannedAt, Dropping, Framed, thickOf}
 use Rattle.verdict_frame.specs.Frames.{solidFrame, planeFrame, AxisOf, lineFrame, lineRows, pointFrame, unitRows, OnLine, InPlane, planeRows, Some, Wide, FirstPortal}
 

@@ -8,7 +8,7 @@ use Rattle.ints.specs.Quote.{sides, by-ring}
 use Rattle.ints.specs.Order.{le-or-lt, le-comb, lt-comb, nn-of-le, pos-of-lt, nn-add, nn-mul, pos-add, pos-mul, lt→≤ℤ, ≤ℤ-<ℤ-trans, ≤ℤ-antisymm}
 use Rattle.space.specs.declared.Vec3.{Vec3}
 use Rattle.space.specs.Vectors.{dot, plus, det, env1, origin, vec-eq}
-use Rattle.verdict_portal.specs.Portal.{zero-sum-dot, frame-zero}
+use Rattle.verdict_portal.specs.Portal.{ZeroSum, zero-sum-dot, frame-zero}
 use Rattle.ints.specs.Sign.{Under, lex, lex-other, same-sym, l2, lt-other, gt-other}
 use Rattle.verdict_portal.specs.Sizes.{bigK, posK, hat, hat-dot}
 use Rattle.verdict_portal.specs.Round.{Met}
@@ -123,3 +123,33 @@ w2 {D} {p} {a} {b} {c} c1 c2 c3 m1 m2 m3 f mp ma mb mc met d w = no-balance _ _ 
       where
         drop : (k s t : ℤ) → pos 0 -ℤ (k *ℤ s +ℤ t) ≡ (pos 0 -ℤ t) +ℤ k *ℤ (pos 0 -ℤ s)
         drop k s t = by-ring (k ∷ s ∷ t ∷ []) (search sides depth 9) refl
+
+-- ---- E1: penetrating at once. Four points of D with positive weights that balance, three of them independent
+-- of four numbers that are not positive and balance so, the first is 0
+balanced-zero : (w0 w1 w2 w3 t u v w : ℤ) → pos 0 <ℤ w0 → pos 0 <ℤ w1 → pos 0 <ℤ w2 → pos 0 <ℤ w3
+    → t ≤ℤ pos 0 → u ≤ℤ pos 0 → v ≤ℤ pos 0 → w ≤ℤ pos 0 → w0 *ℤ t +ℤ w1 *ℤ u +ℤ w2 *ℤ v +ℤ w3 *ℤ w ≡ pos 0 → t ≡ pos 0
+balanced-zero w0 w1 w2 w3 t u v w h0 h1 h2 h3 ht hu hv hw e = ⊎-elim
+    (λ h. ≤ℤ-antisymm ht h)
+    (λ h. absurd (no-balance w0 w1 w2 w3 t u v w h0 (lt→≤ℤ h1) (lt→≤ℤ h2) (lt→≤ℤ h3) h hu hv hw e)) (le-or-lt (pos 0) t)
+
+pub e1 : {D : Vec3 → Type 0} {w0 w1 w2 w3 : ℤ} {p a b c : Vec3} → D p → D a → D b → D c → pos 0 <ℤ w0 → pos 0 <ℤ w1 → pos 0 <ℤ w2 → pos 0 <ℤ w3
+    → ZeroSum w0 w1 w2 w3 p a b c → (det a b c ≡ pos 0 → ⊥) → (d : Vec3) → Walled D d → ⊥
+e1 {D} {w0} {w1} {w2} {w3} {p} {a} {b} {c} mp ma mb mc h0 h1 h2 h3 z f d w = w .some (frame-origin a b c d f
+    (balanced-zero w1 w0 w2 w3 (dot d a) (dot d p) (dot d b) (dot d c) h1 h0 h2 h3 (w .flat a ma) low (w .flat b mb) (w .flat c mc) (swap w1 w0 w2 w3 (dot d a) (dot d p) (dot d b) (dot d c) ∙ sum))
+    (balanced-zero w2 w0 w1 w3 (dot d b) (dot d p) (dot d a) (dot d c) h2 h0 h1 h3 (w .flat b mb) low (w .flat a ma) (w .flat c mc) (turn w2 w0 w1 w3 (dot d b) (dot d p) (dot d a) (dot d c) ∙ sum))
+    (balanced-zero w3 w0 w1 w2 (dot d c) (dot d p) (dot d a) (dot d b) h3 h0 h1 h2 (w .flat c mc) low (w .flat a ma) (w .flat b mb) (last w3 w0 w1 w2 (dot d c) (dot d p) (dot d a) (dot d b) ∙ sum)))
+  where
+    low : dot d p ≤ℤ pos 0
+    low = w .flat p mp
+
+    sum : w0 *ℤ dot d p +ℤ w1 *ℤ dot d a +ℤ w2 *ℤ dot d b +ℤ w3 *ℤ dot d c ≡ pos 0
+    sum = zero-sum-dot z d
+
+    swap : (x y u v s t k l : ℤ) → x *ℤ s +ℤ y *ℤ t +ℤ u *ℤ k +ℤ v *ℤ l ≡ y *ℤ t +ℤ x *ℤ s +ℤ u *ℤ k +ℤ v *ℤ l
+    swap x y u v s t k l = by-ring (x ∷ y ∷ u ∷ v ∷ s ∷ t ∷ k ∷ l ∷ []) (search sides depth 40) refl
+
+    turn : (x y u v s t k l : ℤ) → x *ℤ s +ℤ y *ℤ t +ℤ u *ℤ k +ℤ v *ℤ l ≡ y *ℤ t +ℤ u *ℤ k +ℤ x *ℤ s +ℤ v *ℤ l
+    turn x y u v s t k l = by-ring (x ∷ y ∷ u ∷ v ∷ s ∷ t ∷ k ∷ l ∷ []) (search sides depth 40) refl
+
+    last : (x y u v s t k l : ℤ) → x *ℤ s +ℤ y *ℤ t +ℤ u *ℤ k +ℤ v *ℤ l ≡ y *ℤ t +ℤ u *ℤ k +ℤ v *ℤ l +ℤ x *ℤ s
+    last x y u v s t k l = by-ring (x ∷ y ∷ u ∷ v ∷ s ∷ t ∷ k ∷ l ∷ []) (search sides depth 40) refl

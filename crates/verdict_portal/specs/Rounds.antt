@@ -2,21 +2,24 @@
 -- A round ends in a meeting, or with p in one of the three slots, the portal held and the measure less.
 use mathlib.Core.Path.{_≡_, refl, sym, ap, ap₂, _∙_, subst}
 use mathlib.Core.Bool.{Bool, true, false}
-use mathlib.Core.Logic.{_⊎_, inr, ⊎-elim}
+use mathlib.Core.Logic.{_⊎_, inl, inr, ⊎-elim}
 use Prim.Native.Nat.{ℕ, zero, suc, _≤_, _<_, max}
 use native.Mathlib.Nat.{le-trans, le-max-left, le-max-right}
 use native.Mathlib.Omega.{arith}
+use mir.Syntax.{w64}
+use mir.Val.{toZ, ofZ}
+use mir.Facts.{sfits-lit}
 use lib.Dec.{T}
 use lib.IntN.{ℤ, pos, negsuc}
 use lib.Signed.{_≤ℤ_, _<ℤ_, ltZ}
-use Rattle.ints.specs.Bounds.{In, Known, Within, known, within, _&_, and-l, and-r}
+use Rattle.ints.specs.Bounds.{In, Known, Within, known, within, worth, fits, k-back, k-is, k-within, _&_, and-l, and-r}
 use Rattle.ints.specs.Order.{le-or-lt}
-use Rattle.ints.specs.Sign.{lex, lex-assoc}
-use Rattle.ints.specs.Tests.{lt-of-true, le-of-false}
+use Rattle.ints.specs.Sign.{lex, lex-assoc, lex-zero, lex-other}
+use Rattle.ints.specs.Tests.{same-bits, lt-of-true, le-of-false}
 use Rattle.space.specs.declared.Vec3.{Vec3}
 use Rattle.space.specs.Vectors.{dot, cross, minus, plus}
-use Rattle.space.specs.Ranges.{Upto, pointReach, crossReach}
-use Rattle.verdict_portal.specs.Shift.{side, front, tie}
+use Rattle.space.specs.Ranges.{Upto, pointReach, edgeReach, crossReach}
+use Rattle.verdict_portal.specs.Shift.{side, side-low, front, tie}
 use Rattle.verdict_portal.specs.Round.{Setting, PortalHeld, Moved, Met, AllNN, At, held-rot, moved-rot, front-rot, round-here, round-next, not-all, meet}
 use Rattle.verdict_portal.specs.declared.Three.{Three}
 
@@ -32,6 +35,22 @@ three a b c = record { a = a; b = b; c = c }
 abbrev pub chosen : Bool → ℕ → ℕ → ℕ
 chosen true x y = x
 chosen false x y = y
+
+abbrev pub bothOf : Bool → Bool → Bool
+bothOf true n = n
+bothOf false n = false
+
+-- whose round it is, by the edges that p is outside of: 0 is none's
+abbrev pub slotOf : Bool → Bool → Bool → ℕ
+slotOf true two last = chosen last 3 1
+slotOf false true last = 2
+slotOf false false last = chosen last 3 0
+
+-- a portal's edges: the products of its corners two by two, each in the slot of the corner that it leaves out
+pub record Edges (t x : Three) : Type 0 where
+  pub one : (x .a ≡ cross (t .b) (t .c)) × Upto edgeReach (x .a)
+  pub two : (x .b ≡ cross (t .c) (t .a)) × Upto edgeReach (x .b)
+  pub last : (x .c ≡ cross (t .a) (t .b)) × Upto edgeReach (x .c)
 
 -- all that a round is asked with
 pub record Ready (q : Vec3) (f t : Three) (p : Vec3) : Type 0 where
@@ -73,28 +92,28 @@ pub ready-rot : {q : Vec3} {f t : Three} {p : Vec3} → Ready q f t p → Ready 
 ready-rot {q} {t} {p} r = record { setting = r .setting; held = held-rot (r .held); inp = r .inp; fore = subst (λ z. pos 0 ≤ℤ z) (sym (front-rot q p (t .a) (t .b) (t .c))) (r .fore) }
 
 -- ---- whose round: by the signs
-pub choose-none : {q : Vec3} {t : Three} {p : Vec3} {r : ℕ} → r ≡ 0 → pos 0 ≤ℤ side q p (t .b) (t .c) → pos 0 ≤ℤ side q p (t .c) (t .a) → pos 0 ≤ℤ side q p (t .a) (t .b) → Choice q t p r
+choose-none : {q : Vec3} {t : Three} {p : Vec3} {r : ℕ} → r ≡ 0 → pos 0 ≤ℤ side q p (t .b) (t .c) → pos 0 ≤ℤ side q p (t .c) (t .a) → pos 0 ≤ℤ side q p (t .a) (t .b) → Choice q t p r
 choose-none e u v w = record { none = λ _. record { n1 = u; n2 = v; n3 = w }; one = λ k. absurd (omega arith); two = λ k. absurd (omega arith); rest = λ f g h. absurd (f e) }
 
-pub choose-one : {q : Vec3} {t : Three} {p : Vec3} {r : ℕ} → r ≡ 1 → side q p (t .b) (t .c) <ℤ pos 0 → pos 0 ≤ℤ side q p (t .a) (t .b) → Choice q t p r
+choose-one : {q : Vec3} {t : Three} {p : Vec3} {r : ℕ} → r ≡ 1 → side q p (t .b) (t .c) <ℤ pos 0 → pos 0 ≤ℤ side q p (t .a) (t .b) → Choice q t p r
 choose-one e u w = record { none = λ k. absurd (omega arith); one = λ _. record { at = record { here = u; back = w } }; two = λ k. absurd (omega arith); rest = λ f g h. absurd (g e) }
 
-pub choose-two : {q : Vec3} {t : Three} {p : Vec3} {r : ℕ} → r ≡ 2 → side q p (t .c) (t .a) <ℤ pos 0 → pos 0 ≤ℤ side q p (t .b) (t .c) → Choice q t p r
+choose-two : {q : Vec3} {t : Three} {p : Vec3} {r : ℕ} → r ≡ 2 → side q p (t .c) (t .a) <ℤ pos 0 → pos 0 ≤ℤ side q p (t .b) (t .c) → Choice q t p r
 choose-two e u w = record { none = λ k. absurd (omega arith); one = λ k. absurd (omega arith); two = λ _. record { at = record { here = u; back = w } }; rest = λ f g h. absurd (h e) }
 
-pub choose-three : {q : Vec3} {t : Three} {p : Vec3} {r : ℕ} → r ≡ 3 → side q p (t .a) (t .b) <ℤ pos 0 → pos 0 ≤ℤ side q p (t .c) (t .a) → Choice q t p r
+choose-three : {q : Vec3} {t : Three} {p : Vec3} {r : ℕ} → r ≡ 3 → side q p (t .a) (t .b) <ℤ pos 0 → pos 0 ≤ℤ side q p (t .c) (t .a) → Choice q t p r
 choose-three e u w = record { none = λ k. absurd (omega arith); one = λ k. absurd (omega arith); two = λ k. absurd (omega arith); rest = λ f g h. record { at = record { here = u; back = w } } }
 
 -- where the first and the third edge have p outside, the second does not
-pub not-second : {q : Vec3} {f t : Three} {p : Vec3} → Ready q f t p → side q p (t .b) (t .c) <ℤ pos 0 → side q p (t .a) (t .b) <ℤ pos 0 → pos 0 ≤ℤ side q p (t .c) (t .a)
+not-second : {q : Vec3} {f t : Three} {p : Vec3} → Ready q f t p → side q p (t .b) (t .c) <ℤ pos 0 → side q p (t .a) (t .b) <ℤ pos 0 → pos 0 ≤ℤ side q p (t .c) (t .a)
 not-second {q} {t} {p} r u w = ⊎-elim (λ h. h) (λ h. absurd (not-all (r .setting) (r .held) (r .inp) (r .fore) u h w)) (le-or-lt (pos 0) (side q p (t .c) (t .a)))
 
 -- ---- the first slot's round
-pub beside-here : {q : Vec3} {f t : Three} {p : Vec3} {r : Bool} → r ≡ false → Ready q f t p → First q t p
+beside-here : {q : Vec3} {f t : Three} {p : Vec3} {r : Bool} → r ≡ false → Ready q f t p → First q t p
     → (pos 0 ≤ℤ side q p (t .c) (t .a)) ⊎ (pos 0 ≤ℤ tie q p (t .c) (f .a) (f .b) (f .c)) → Beside q f t p r
 beside-here e r s d = record { second = λ k. absurd (subst T (sym k ∙ e) tt); here = λ _. round-here (r .setting) (r .held) (r .inp) (r .fore) (s .at .here) (s .at .back) d }
 
-pub beside-second : {q : Vec3} {f t : Three} {p : Vec3} {r : Bool} → r ≡ true → Ready q f t p → First q t p → side q p (t .c) (t .a) <ℤ pos 0 → tie q p (t .c) (f .a) (f .b) (f .c) <ℤ pos 0
+beside-second : {q : Vec3} {f t : Three} {p : Vec3} {r : Bool} → r ≡ true → Ready q f t p → First q t p → side q p (t .c) (t .a) <ℤ pos 0 → tie q p (t .c) (f .a) (f .b) (f .c) <ℤ pos 0
     → Beside q f t p r
 beside-second e r s d k = record { second = λ _. round-next (r .setting) (r .held) (r .inp) (r .fore) d (s .at .back) k; here = λ u. absurd (subst T (sym e ∙ u) tt) }
 
@@ -106,21 +125,34 @@ pub unsaid : {r : Bool} {a : ℤ} → r ≡ ltZ a (pos 0) → r ≡ false → po
 unsaid e t = le-of-false (sym e ∙ t)
 
 -- the tie's answer is the round's, where the neighbouring edge has p outside
-pub beside-tied : {q : Vec3} {f t : Three} {p : Vec3} (r : Bool) → r ≡ ltZ (tie q p (t .c) (f .a) (f .b) (f .c)) (pos 0) → Ready q f t p → First q t p → side q p (t .c) (t .a) <ℤ pos 0
+beside-tied : {q : Vec3} {f t : Three} {p : Vec3} (r : Bool) → r ≡ ltZ (tie q p (t .c) (f .a) (f .b) (f .c)) (pos 0) → Ready q f t p → First q t p → side q p (t .c) (t .a) <ℤ pos 0
     → Beside q f t p r
 beside-tied true e r s d = beside-second refl r s d (said e refl)
 beside-tied false e r s d = beside-here refl r s (inr (unsaid e refl))
 
 -- the third slot's round or another's, by the last edge
-pub choose-third-or-first : {q : Vec3} {f t : Three} {p : Vec3} {r : ℕ} (b : Bool) → b ≡ ltZ (side q p (t .a) (t .b)) (pos 0) → r ≡ chosen b 3 1 → Ready q f t p
+choose-third-or-first : {q : Vec3} {f t : Three} {p : Vec3} {r : ℕ} (b : Bool) → b ≡ ltZ (side q p (t .a) (t .b)) (pos 0) → r ≡ chosen b 3 1 → Ready q f t p
     → side q p (t .b) (t .c) <ℤ pos 0 → Choice q t p r
 choose-third-or-first true e k r u = choose-three k (said e refl) (not-second r u (said e refl))
 choose-third-or-first false e k r u = choose-one k u (unsaid e refl)
 
-pub choose-third-or-none : {q : Vec3} {t : Three} {p : Vec3} {r : ℕ} (b : Bool) → b ≡ ltZ (side q p (t .a) (t .b)) (pos 0) → r ≡ chosen b 3 0 → pos 0 ≤ℤ side q p (t .b) (t .c)
+choose-third-or-none : {q : Vec3} {t : Three} {p : Vec3} {r : ℕ} (b : Bool) → b ≡ ltZ (side q p (t .a) (t .b)) (pos 0) → r ≡ chosen b 3 0 → pos 0 ≤ℤ side q p (t .b) (t .c)
     → pos 0 ≤ℤ side q p (t .c) (t .a) → Choice q t p r
 choose-third-or-none true e k u v = choose-three k (said e refl) v
 choose-third-or-none false e k u v = choose-none k u v (unsaid e refl)
+
+-- whose round, by the three edges' signs
+pub choice-of : {q : Vec3} {f t : Three} {p : Vec3} {r : ℕ} (u v w : Bool) → u ≡ ltZ (side q p (t .b) (t .c)) (pos 0) → v ≡ ltZ (side q p (t .c) (t .a)) (pos 0)
+    → w ≡ ltZ (side q p (t .a) (t .b)) (pos 0) → Ready q f t p → r ≡ slotOf u v w → Choice q t p r
+choice-of true v w eu ev ew r k = choose-third-or-first w ew k r (said eu refl)
+choice-of false true w eu ev ew r k = choose-two k (said ev refl) (unsaid eu refl)
+choice-of false false w eu ev ew r k = choose-third-or-none w ew k (unsaid eu refl) (unsaid ev refl)
+
+-- the first slot's round, by the next edge's sign and the tie's
+pub beside-of : {q : Vec3} {f t : Three} {p : Vec3} {r : Bool} (n : Bool) → n ≡ ltZ (side q p (t .c) (t .a)) (pos 0) → r ≡ bothOf n (ltZ (tie q p (t .c) (f .a) (f .b) (f .c)) (pos 0)) → Ready q f t p
+    → First q t p → Beside q f t p r
+beside-of {r} true e k s h = beside-tied r k s h (said e refl)
+beside-of false e k s h = beside-here k s h (inl (unsaid e refl))
 
 -- ---- a whole round
 pub round-met : {q : Vec3} {f t : Three} {p : Vec3} {r : ℕ} → r ≡ 0 → Ready q f t p → AllNN (side q p (t .b) (t .c)) (side q p (t .c) (t .a)) (side q p (t .a) (t .b)) → RoundSays q f t p r
@@ -139,34 +171,36 @@ pub round-first : {q : Vec3} {f t : Three} {p : Vec3} {r : ℕ} (b : Bool) → r
 round-first true e n = put-two e (n .second refl)
 round-first false e n = put-one e (n .here refl)
 
-pub round-second : {q : Vec3} {f t u : Three} {p : Vec3} {r : ℕ} (b : Bool) → u ≡ rot t → r ≡ chosen b 3 2 → Beside q f u p b → RoundSays q f t p r
-round-second {q} {f} {t} {p} {r} b k e n = go b e (subst (λ v. Beside q f v p b) k n)
-  where
-    go : (b : Bool) → r ≡ chosen b 3 2 → Beside q f (rot t) p b → RoundSays q f t p r
-    go true e n = put-three e (moved-rot (n .second refl))
-    go false e n = put-two e (moved-rot (n .here refl))
+pub round-second : {q : Vec3} {f t : Three} {p : Vec3} {r : ℕ} (b : Bool) → r ≡ chosen b 3 2 → Beside q f (rot t) p b → RoundSays q f t p r
+round-second true e n = put-three e (moved-rot (n .second refl))
+round-second false e n = put-two e (moved-rot (n .here refl))
 
-pub round-third : {q : Vec3} {f t u v : Three} {p : Vec3} {r : ℕ} (b : Bool) → u ≡ rot t → v ≡ rot u → r ≡ chosen b 1 3 → Beside q f v p b → RoundSays q f t p r
-round-third {q} {f} {t} {p} {r} b k l e n = go b e (subst (λ w. Beside q f w p b) (l ∙ ap rot k) n)
-  where
-    go : (b : Bool) → r ≡ chosen b 1 3 → Beside q f (rot (rot t)) p b → RoundSays q f t p r
-    go true e n = put-one e (moved-rot (moved-rot (n .second refl)))
-    go false e n = put-three e (moved-rot (moved-rot (n .here refl)))
+pub round-third : {q : Vec3} {f t : Three} {p : Vec3} {r : ℕ} (b : Bool) → r ≡ chosen b 1 3 → Beside q f (rot (rot t)) p b → RoundSays q f t p r
+round-third true e n = put-one e (moved-rot (moved-rot (n .second refl)))
+round-third false e n = put-three e (moved-rot (moved-rot (n .here refl)))
 
 -- ---- what is made of the parts, in the order of the code
-pub side-is : (q p b c : Vec3) {x v e s : Vec3} → x ≡ cross b c → v ≡ minus b c → e ≡ cross p v → s ≡ plus x e → lex (dot x p) (dot s q) ≡ side q p b c
-side-is q p b c hx hv he hs = ap₂ lex (ap (λ w. dot w p) hx) (ap (λ w. dot w q) (hs ∙ ap₂ plus hx (he ∙ ap (cross p) hv)))
+pub side-level : (q p b c : Vec3) {x v e s : Vec3} → x ≡ cross b c → v ≡ minus b c → e ≡ cross p v → s ≡ plus x e → dot x p ≡ pos 0 → dot s q ≡ side q p b c
+side-level q p b c hx hv he hs z = ap (λ w. dot w q) (hs ∙ ap₂ plus hx (he ∙ ap (cross p) hv)) ∙ sym (lex-zero (side-low q p b c) (sym (ap (λ w. dot w p) hx) ∙ z))
 
-pub tied-is : (q p r : Vec3) (f : Three) {m v n : Vec3} → m ≡ cross p r → v ≡ minus p r → n ≡ cross v q → lex (leadingOf m f) (leadingOf n f) ≡ tie q p r (f .a) (f .b) (f .c)
-tied-is q p r f hm hv hn =
-    ap₂ (λ m n. lex (leadingOf m f) (leadingOf n f)) hm (hn ∙ ap (λ v. cross v q) hv)
-    ∙ lex-assoc (dot m (f .a)) (lex (dot m (f .b)) (dot m (f .c))) w ∙ ap (lex (dot m (f .a))) (lex-assoc (dot m (f .b)) (dot m (f .c)) w)
+pub side-clear : (q p b c : Vec3) {x : Vec3} → x ≡ cross b c → (dot x p ≡ pos 0 → ⊥) → dot x p ≡ side q p b c
+side-clear q p b c hx f = ap (λ w. dot w p) hx ∙ sym (lex-other (side-low q p b c) (λ z. f (ap (λ w. dot w p) hx ∙ z)))
+
+tied-is : (q p r : Vec3) (f : Three) → lex (leadingOf (cross p r) f) (leadingOf (cross (minus p r) q) f) ≡ tie q p r (f .a) (f .b) (f .c)
+tied-is q p r f = lex-assoc (dot m (f .a)) (lex (dot m (f .b)) (dot m (f .c))) w ∙ ap (lex (dot m (f .a))) (lex-assoc (dot m (f .b)) (dot m (f .c)) w)
   where
     m : Vec3
     m = cross p r
 
     w : ℤ
     w = leadingOf (cross (minus p r) q) f
+
+pub tied-level : (q p r : Vec3) (f : Three) {m v n : Vec3} → m ≡ cross p r → v ≡ minus p r → n ≡ cross v q → leadingOf m f ≡ pos 0 → leadingOf n f ≡ tie q p r (f .a) (f .b) (f .c)
+tied-level q p r f hm hv hn z =
+    ap (λ n. leadingOf n f) (hn ∙ ap (λ v. cross v q) hv) ∙ sym (lex-zero (leadingOf (cross (minus p r) q) f) (sym (ap (λ m. leadingOf m f) hm) ∙ z)) ∙ tied-is q p r f
+
+pub tied-clear : (q p r : Vec3) (f : Three) {m : Vec3} → m ≡ cross p r → (leadingOf m f ≡ pos 0 → ⊥) → leadingOf m f ≡ tie q p r (f .a) (f .b) (f .c)
+tied-clear q p r f hm g = ap (λ m. leadingOf m f) hm ∙ sym (lex-other (leadingOf (cross (minus p r) q) f) (λ z. g (ap (λ m. leadingOf m f) hm ∙ z))) ∙ tied-is q p r f
 
 -- ---- what is known of lex, where both are known
 in-wider : (z : ℤ) (l h m n : ℕ) → In l h z → l ≤ m → h ≤ n → In m n z
@@ -195,3 +229,17 @@ dot-within um up = within (search known depth 15) tt
 
 pub leading-within : {m : Vec3} {f : Three} → Upto crossReach m → Upto pointReach (f .a) → Upto pointReach (f .b) → Upto pointReach (f .c) → Within 679395106750464000 (leadingOf m f)
 leading-within um u1 u2 u3 = within (search (known, k-lex) depth 25) tt
+
+-- ---- a number that is tested for 0 by its bits
+pub zero-bits : {z : ℤ} → Within 679395106750464000 z → ofZ w64 z ≡ 0 → z ≡ pos 0
+zero-bits w e = same-bits {w = w64} (fits (k-within w) tt) (sfits-lit tt) e
+
+-- and as the code holds it
+pub zero-made : {r z : ℤ} → r ≡ z → Within 679395106750464000 z → ofZ w64 r ≡ 0 → z ≡ pos 0
+zero-made k w e = zero-bits w (ap (ofZ w64) (sym k) ∙ e)
+
+pub other-made : {r z : ℤ} → r ≡ z → (ofZ w64 r ≡ 0 → ⊥) → z ≡ pos 0 → ⊥
+other-made k f e = f (ap (ofZ w64) (k ∙ e))
+
+pub sign-made : {r z : ℤ} → r ≡ z → Within 679395106750464000 z → toZ w64 (ofZ w64 r) ≡ z
+sign-made k w = worth (k-back w64 _ (k-is k (k-within w))) tt

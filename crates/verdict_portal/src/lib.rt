@@ -9,25 +9,30 @@ use space::plus;
 ghost use mathlib.Core.Path.{_≡_};
 ghost use lib.IntN.{pos};
 ghost use lib.Signed.{ltZ};
-ghost use Rattle.space.specs.Ranges.{Upto, pointReach, shiftReach, crossReach};
+ghost use Rattle.space.specs.Vectors.{cross};
+ghost use Rattle.space.specs.Ranges.{Upto, pointReach, shiftReach, edgeReach, crossReach};
 ghost use Rattle.verdict_portal.specs.Shift.{side, tie};
-ghost use Rattle.verdict_portal.specs.Rounds.{leadingOf, rot, chosen, Ready, First, Beside, Choice, RoundSays};
+ghost use Rattle.verdict_portal.specs.Rounds.{leadingOf, chosen, bothOf, slotOf, Ready, Edges, RoundSays};
 
-// Three points: a portal, or the frame whose ray decides ties.
+// Three vectors: the points of a portal, the frame whose ray decides ties, or the edges of a portal.
 pub struct Three {
     pub a: Vec3,
     pub b: Vec3,
     pub c: Vec3,
 }
 
-// Whether p is outside at the edge from b to c.
-fn outside(q: Vec3, p: Vec3, b: Vec3, c: Vec3) -> bool
+// Whether p is outside at the edge x = b × c. Only where p is level with it does the shift decide.
+fn outside(q: Vec3, p: Vec3, b: Vec3, c: Vec3, x: Vec3) -> bool
     requires { ⌜ Upto shiftReach q × Upto pointReach p × Upto pointReach b × Upto pointReach c ⌝ }
+    requires { ⌜ (x ≡ cross b c) × Upto edgeReach x ⌝ }
     ensures { λ r. ⌜ r ≡ ltZ (side q p b c) (pos 0) ⌝ }
 {
-    let x = cross(b, c);
-    let e = cross(p, minus(b, c));
-    first_of(dot(x, p), dot(plus(x, e), q)) < 0
+    let u = dot(x, p);
+    if u == 0 {
+        let e = cross(p, minus(b, c));
+        return dot(plus(x, e), q) < 0;
+    }
+    u < 0
 }
 
 // The first of m·a, m·b, m·c that is not 0.
@@ -41,23 +46,17 @@ fn leading(m: Vec3, f: Three) -> i64
     first_of(dot(m, a), first_of(dot(m, b), dot(m, c)))
 }
 
-// On which side of the ray the edge from p to r passes.
+// On which side of the ray the edge from p to r passes. Only where the ray meets it does the shift decide.
 fn tied(q: Vec3, p: Vec3, r: Vec3, f: Three) -> bool
     requires { ⌜ Upto shiftReach q × Upto pointReach p × Upto pointReach r × Upto pointReach (f .a) × Upto pointReach (f .b) × Upto pointReach (f .c) ⌝ }
     ensures { λ s. ⌜ s ≡ ltZ (tie q p r (f .a) (f .b) (f .c)) (pos 0) ⌝ }
 {
-    let m = cross(p, r);
-    let n = cross(minus(p, r), q);
-    first_of(leading(m, f), leading(n, f)) < 0
-}
-
-fn rotated(t: Three) -> Three
-    ensures { λ r. ⌜ r ≡ rot t ⌝ }
-{
-    let a = t.a;
-    let b = t.b;
-    let c = t.c;
-    Three { a: b, b: c, c: a }
+    let u = leading(cross(p, r), f);
+    if u == 0 {
+        let n = cross(minus(p, r), q);
+        return leading(n, f) < 0;
+    }
+    u < 0
 }
 
 // Of two slots, the first where n is true.
@@ -70,51 +69,54 @@ fn choose(n: bool, x: u8, y: u8) -> u8
     y
 }
 
-// In the first slot's round: whether p takes the second corner's place, and not the first's.
-fn beside(q: Vec3, f: Three, t: Three, p: Vec3) -> bool
-    requires { ⌜ Ready q f t p ⌝ }
-    requires { ⌜ First q t p ⌝ }
-    ensures { λ r. ⌜ Beside q f t p r ⌝ }
+// In a slot's round: whether p takes the next corner's place, and not the slot's own. That is where p is outside at the next edge too and the tie says so.
+fn beside(next: bool, q: Vec3, p: Vec3, r: Vec3, f: Three) -> bool
+    requires { ⌜ Upto shiftReach q × Upto pointReach p × Upto pointReach r × Upto pointReach (f .a) × Upto pointReach (f .b) × Upto pointReach (f .c) ⌝ }
+    ensures { λ s. ⌜ s ≡ bothOf next (ltZ (tie q p r (f .a) (f .b) (f .c)) (pos 0)) ⌝ }
 {
-    let a = t.a;
-    let c = t.c;
-    if outside(q, p, c, a) {
-        return tied(q, p, c, f);
+    if next {
+        return tied(q, p, r, f);
     }
     false
 }
 
-// The slot whose round it is: 1, 2 or 3, or 0 where p is inside at all three edges.
-fn slot_of(q: Vec3, f: Three, t: Three, p: Vec3) -> u8
+// The slot whose round it is, by the edges that p is outside of: 1, 2 or 3, or 0 where it is inside at all three.
+fn slot_of(one: bool, two: bool, three: bool) -> u8
+    ensures { λ r. ⌜ r ≡ slotOf one two three ⌝ }
+{
+    if one {
+        return choose(three, 3, 1);
+    }
+    if two {
+        return 2;
+    }
+    choose(three, 3, 0)
+}
+
+// One round: the corner that p replaces, 1, 2 or 3; or 0, and the origin is met. The portal's edges x are at hand.
+pub fn round(q: Vec3, f: Three, t: Three, x: Three, p: Vec3) -> u8
     requires { ⌜ Ready q f t p ⌝ }
-    ensures { λ r. ⌜ Choice q t p r ⌝ }
+    requires { ⌜ Edges t x ⌝ }
+    ensures { λ r. ⌜ RoundSays q f t p r ⌝ }
 {
     let a = t.a;
     let b = t.b;
     let c = t.c;
-    if outside(q, p, b, c) {
-        return choose(outside(q, p, a, b), 3, 1);
-    }
-    if outside(q, p, c, a) {
-        return 2;
-    }
-    choose(outside(q, p, a, b), 3, 0)
-}
-
-// One round: the corner that p replaces, 1, 2 or 3; or 0, and the origin is met.
-pub fn round(q: Vec3, f: Three, t: Three, p: Vec3) -> u8
-    requires { ⌜ Ready q f t p ⌝ }
-    ensures { λ r. ⌜ RoundSays q f t p r ⌝ }
-{
-    let s = slot_of(q, f, t, p);
+    let xa = x.a;
+    let xb = x.b;
+    let xc = x.c;
+    let one = outside(q, p, b, c, xa);
+    let two = outside(q, p, c, a, xb);
+    let three = outside(q, p, a, b, xc);
+    let s = slot_of(one, two, three);
     if s == 0 {
         return 0;
     }
     if s == 1 {
-        return choose(beside(q, f, t, p), 2, 1);
+        return choose(beside(two, q, p, c, f), 2, 1);
     }
     if s == 2 {
-        return choose(beside(q, f, rotated(t), p), 3, 2);
+        return choose(beside(three, q, p, a, f), 3, 2);
     }
-    choose(beside(q, f, rotated(rotated(t)), p), 1, 3)
+    choose(beside(one, q, p, b, f), 1, 3)
 }

@@ -13,12 +13,12 @@ use Rattle.ints.specs.Order.{lt-or-ge}
 use Rattle.ints.specs.Sign.{Under, lex}
 use Rattle.space.specs.declared.Vec3.{Vec3}
 use Rattle.space.specs.Vectors.{dot, cross, plus, normal}
-use Rattle.space.specs.Ranges.{Upto, pointReach, crossReach, normalReach}
+use Rattle.space.specs.Ranges.{Upto, pointReach, edgeReach, crossReach, normalReach}
 use Rattle.space.specs.Verdicts.{Piece}
 use Rattle.verdict_portal.specs.declared.Three.{Three}
 use Rattle.verdict_portal.specs.Sizes.{bigK, front-under}
 use Rattle.verdict_portal.specs.Exits.{not-behind, x1}
-use Rattle.verdict_portal.specs.Rounds.{Ready, RoundSays}
+use Rattle.verdict_portal.specs.Rounds.{Ready, Edges, RoundSays}
 use Rattle.verdict_walk.specs.declared.support.Difference.{Difference}
 use Rattle.verdict_walk.specs.declared.path.Portal.{Portal}
 use Rattle.verdict_walk.specs.declared.path.Ended.{Ended}
@@ -45,28 +45,36 @@ corners e b = subst Corners (sym e) (record { ina = b .held .ina; inb = b .held 
 pub point-upto : {A B : Piece} {g : Vec3} {p : Difference} → Ground A B g → Tagged A B g p → Upto pointReach (p .at)
 point-upto k t = spread-upto (k .first) (k .second) (k .box) (spread-of t)
 
--- ---- the normal, from its parts
-pub half : (t : Three) {x1 x2 y : Vec3} → Corners t → x1 ≡ cross (t .b) (t .c) → x2 ≡ cross (t .c) (t .a) → y ≡ plus x1 x2 → Upto crossReach y
-half t {y} k e1 e2 e = subst (Upto crossReach) (sym (e ∙ ap₂ plus e1 e2)) (sum k)
-  where
-    sum : Corners t → Upto crossReach (plus (cross (t .b) (t .c)) (cross (t .c) (t .a)))
-    sum k = record { ux = within (search known depth 9) tt; uy = within (search known depth 9) tt; uz = within (search known depth 9) tt }
+-- ---- the edges and the normal, from their parts
+edge-upto : {a b : Vec3} → Upto pointReach a → Upto pointReach b → Upto edgeReach (cross a b)
+edge-upto u v = record { ux = within (search known depth 9) tt; uy = within (search known depth 9) tt; uz = within (search known depth 9) tt }
 
-pub whole : (t : Three) {x1 x2 x3 y r : Vec3} → Corners t → x1 ≡ cross (t .b) (t .c) → x2 ≡ cross (t .c) (t .a) → x3 ≡ cross (t .a) (t .b) → y ≡ plus x1 x2 → r ≡ plus y x3
-    → (r ≡ normal (t .a) (t .b) (t .c)) × Upto normalReach r
-whole t {r} k e1 e2 e3 e e′ = (is, subst (Upto normalReach) (sym is) (sum k))
-  where
-    is : r ≡ normal (t .a) (t .b) (t .c)
-    is = e′ ∙ ap₂ plus (e ∙ ap₂ plus e1 e2) e3
+edge-made : {a b x : Vec3} → Upto pointReach a → Upto pointReach b → x ≡ cross a b → (x ≡ cross a b) × Upto edgeReach x
+edge-made u v e = (e, subst (Upto edgeReach) (sym e) (edge-upto u v))
 
-    sum : Corners t → Upto normalReach (normal (t .a) (t .b) (t .c))
-    sum k = record { ux = within (search known depth 9) tt; uy = within (search known depth 9) tt; uz = within (search known depth 9) tt }
+pub edges-made : {t : Three} {x y z : Vec3} → Corners t → x ≡ cross (t .b) (t .c) → y ≡ cross (t .c) (t .a) → z ≡ cross (t .a) (t .b) → Edges t (record { a = x; b = y; c = z })
+edges-made k ex ey ez = record { one = edge-made (k .inb) (k .inc) ex; two = edge-made (k .inc) (k .ina) ey; last = edge-made (k .ina) (k .inb) ez }
+
+pub half-upto : {x y z : Vec3} → Upto edgeReach x → Upto edgeReach y → z ≡ plus x y → Upto crossReach z
+half-upto {x} {y} u v e = subst (Upto crossReach) (sym e) (go x y u v)
+  where
+    go : (x y : Vec3) → Upto edgeReach x → Upto edgeReach y → Upto crossReach (plus x y)
+    go x y u v = record { ux = within (search known depth 9) tt; uy = within (search known depth 9) tt; uz = within (search known depth 9) tt }
+
+pub whole-upto : {x y z h n : Vec3} → Upto edgeReach x → Upto edgeReach y → Upto edgeReach z → h ≡ plus x y → n ≡ plus h z → (n ≡ plus (plus x y) z) × Upto normalReach n
+whole-upto {x} {y} {z} {n} u v w eh en = (is, subst (Upto normalReach) (sym is) (go x y z u v w))
+  where
+    is : n ≡ plus (plus x y) z
+    is = en ∙ ap (λ h. plus h z) eh
+
+    go : (x y z : Vec3) → Upto edgeReach x → Upto edgeReach y → Upto edgeReach z → Upto normalReach (plus (plus x y) z)
+    go x y z u v w = record { ux = within (search known depth 9) tt; uy = within (search known depth 9) tt; uz = within (search known depth 9) tt }
 
 -- ---- the ends
-module _ {A B : Piece} {g q n : Vec3} {f v : Three} {t : Portal} {p : Difference} (b : Begun A B g q f t) (ev : v ≡ placesOf t)
-    (en : (n ≡ normal (v .a) (v .b) (v .c)) × Upto normalReach n) (s : Supports A B g n p) where
+module _ {A B : Piece} {g q n : Vec3} {f v x : Three} {t : Portal} {p : Difference} (b : Begun A B g q f t) (ev : v ≡ placesOf t) (ex : Edges v x)
+    (en : (n ≡ plus (plus (x .a) (x .b)) (x .c)) × Upto normalReach n) (s : Supports A B g n p) where
   normal-at : n ≡ normal (t .a .at) (t .b .at) (t .c .at)
-  normal-at = en .0 ∙ ap (λ w. normal (w .a) (w .b) (w .c)) ev
+  normal-at = en .0 ∙ ap₂ plus (ap₂ plus (ex .one .0) (ex .two .0)) (ex .last .0) ∙ ap (λ w. normal (w .a) (w .b) (w .c)) ev
 
   pub walked-apart : lex (dot n (p .at)) (dot n q) <ℤ pos 0 → Walked A B g q f (record { met = false; portal = t; normal = n; last = p })
   walked-apart h = record {

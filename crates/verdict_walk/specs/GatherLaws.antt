@@ -8,14 +8,12 @@ use native.Mathlib.Omega.{arith}
 use native.Mathlib.Numerals.{add-one}
 use mir.Syntax.{w64}
 use mir.Val.{toZ, ofZ}
-use mir.Facts.{sfits-lit}
 use lib.ListN.{length, set, take, getD, length-set}
 use lib.Seq.{take-suc-set, getD-set-other}
 use lib.IntN.{ℤ, pos, _+ℤ_, _-ℤ_, _*ℤ_, +ℤ-idl, +ℤ-idr, +ℤ-assoc, zero-*ℤ}
 use lib.Signed.{_≤ℤ_, clashℤ}
 use Rattle.ints.specs.Order.{trichotomy, lt-succ}
-use Rattle.ints.specs.Bounds.{Within, known, within, worth, fits, k-back, k-is, k-within}
-use Rattle.ints.specs.Tests.{same-bits}
+use Rattle.ints.specs.Bounds.{Within, known, within, worth, k-back, k-is, k-within}
 use Rattle.ints.specs.Sign.{lt-other, gt-other}
 use Rattle.limits.specs.Limits.{weightMost}
 use Rattle.space.specs.declared.Vec3.{Vec3}
@@ -114,13 +112,52 @@ room-more {g} {r} {p} {w} {n} h u =
     some : (w ≡ pos 0 → ⊥) → Room (n + 1) r
     some f = record { few = let l = h .few in let e = u .counted f in omega arith; size = ap length (u .stored f) ∙ length-set (g .pairs) (g .count) (weighedPair p w) ∙ h .size }
 
+-- what weighs nothing is not counted
+count-stays : {g r : Gathered} {p : Difference} {w : ℤ} → Pushed g p w r → w ≡ pos 0 → r .count ≡ g .count
+count-stays u e = ap (λ h. h .count) (u .none e)
+
 -- nothing that was gathered is lost
 pub count-grows : {g r : Gathered} {p : Difference} {w : ℤ} → Pushed g p w r → g .count ≤ r .count
 count-grows {g} {r} {p} {w} u =
-    ⊎-elim (λ k. some (λ e. lt-other k e)) (⊎-elim (λ k. let e : r .count ≡ g .count = ap (λ h. h .count) (u .none k) in omega arith) (λ k. some (λ e. gt-other k e))) (trichotomy w (pos 0))
+    ⊎-elim (λ k. some (λ e. lt-other k e)) (⊎-elim (λ k. let e : r .count ≡ g .count = count-stays u k in omega arith) (λ k. some (λ e. gt-other k e))) (trichotomy w (pos 0))
   where
     some : (w ≡ pos 0 → ⊥) → g .count ≤ r .count
     some f = let e = u .counted f in omega arith
+
+-- and no push adds more than one
+count-once : {g r : Gathered} {p : Difference} {w : ℤ} → Pushed g p w r → r .count ≤ g .count + 1
+count-once {g} {r} {p} {w} u =
+    ⊎-elim (λ k. some (λ e. lt-other k e)) (⊎-elim (λ k. let e : r .count ≡ g .count = count-stays u k in omega arith) (λ k. some (λ e. gt-other k e))) (trichotomy w (pos 0))
+  where
+    some : (w ≡ pos 0 → ⊥) → r .count ≤ g .count + 1
+    some f = let e = u .counted f in omega arith
+
+-- where four were gathered, each of them weighs something
+pub record FourWeigh (e : Ended) : Type 0 where
+  pub first : pos 0 -ℤ det (e .portal .a .at) (e .portal .b .at) (e .portal .c .at) ≡ pos 0 → ⊥
+  pub second : det (e .last .at) (e .portal .b .at) (e .portal .c .at) ≡ pos 0 → ⊥
+  pub third : det (e .portal .a .at) (e .last .at) (e .portal .c .at) ≡ pos 0 → ⊥
+  pub fourth : det (e .portal .a .at) (e .portal .b .at) (e .last .at) ≡ pos 0 → ⊥
+
+pub four-weigh : {e : Ended} {r : Gathered} → Weighed e r → r .count ≡ 4 → FourWeigh e
+four-weigh {e} {r} h n = record {
+  first = λ z. let k : h .g1 .count ≡ 0 = count-stays (h .first) z in omega (arith, most2, most3, most4);
+  second = λ z. let k = count-stays (h .second) z in omega (arith, most1, most3, most4);
+  third = λ z. let k = count-stays (h .third) z in omega (arith, most1, most2, most4);
+  fourth = λ z. let k = count-stays (h .fourth) z in omega (arith, most1, most2, most3);
+}
+  where
+    most1 : h .g1 .count ≤ 0 + 1
+    most1 = count-once (h .first)
+
+    most2 : h .g2 .count ≤ h .g1 .count + 1
+    most2 = count-once (h .second)
+
+    most3 : h .g3 .count ≤ h .g2 .count + 1
+    most3 = count-once (h .third)
+
+    most4 : r .count ≤ h .g3 .count + 1
+    most4 = count-once (h .fourth)
 
 pub room-none : {n : ℕ} {g : Gathered} → g ≡ nothingYet → Room n g
 room-none {n} e = subst (Room n) (sym e) (record { few = omega arith; size = refl })
@@ -157,7 +194,3 @@ weight-is e h = worth (k-back w64 _ (k-is e (k-within h))) tt
 
 pub weight-fits : {w v : ℤ} → w ≡ v → Within weightReach v → Within weightReach (toZ w64 (ofZ w64 w))
 weight-fits e h = subst (Within weightReach) (sym (weight-is e h)) h
-
--- a number that is tested for 0 by its bits
-pub zero-bits : {z : ℤ} → Within 679395106750464000 z → ofZ w64 z ≡ 0 → z ≡ pos 0
-zero-bits w e = same-bits {w = w64} (fits (k-within w) tt) (sfits-lit tt) e

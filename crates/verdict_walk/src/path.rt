@@ -4,8 +4,9 @@ ghost use mathlib.Core.Path.{_≡_};
 ghost use lib.IntN.{pos};
 ghost use lib.Signed.{ltZ};
 ghost use Rattle.ints.specs.Sign.{lex};
-ghost use Rattle.space.specs.Vectors.{dot, normal};
-ghost use Rattle.space.specs.Ranges.{Upto, pointReach, shiftReach, normalReach};
+ghost use Rattle.space.specs.Vectors.{dot, plus};
+ghost use Rattle.space.specs.Ranges.{Upto, pointReach, shiftReach, edgeReach, normalReach};
+ghost use Rattle.verdict_portal.specs.Rounds.{Edges};
 ghost use Rattle.verdict_walk.specs.Ends.{placesOf, Corners, Replaced, Ground, Begun, Walked};
 use crate::support::Difference;
 use crate::support::support;
@@ -44,18 +45,30 @@ fn places_of(t: Portal) -> Three
     Three { a: x, b: y, c: z }
 }
 
-// The normal of a portal.
-fn normal_of(t: Three) -> Vec3
+// The edges of a portal: the products of its corners two by two, made once for its normal and its round.
+fn edges_of(t: Three) -> Three
     requires { ⌜ Corners t ⌝ }
-    ensures { λ r. ⌜ (r ≡ normal (t .a) (t .b) (t .c)) × Upto normalReach r ⌝ }
+    ensures { λ r. ⌜ Edges t r ⌝ }
 {
     let a = t.a;
     let b = t.b;
     let c = t.c;
-    let x = cross(b, c);
-    let y = cross(c, a);
-    let z = cross(a, b);
-    plus(plus(x, y), z)
+    Three {
+        a: cross(b, c),
+        b: cross(c, a),
+        c: cross(a, b),
+    }
+}
+
+// The normal of a portal, from its edges.
+fn normal_of(x: Three) -> Vec3
+    requires { ⌜ Upto edgeReach (x .a) × Upto edgeReach (x .b) × Upto edgeReach (x .c) ⌝ }
+    ensures { λ r. ⌜ (r ≡ plus (plus (x .a) (x .b)) (x .c)) × Upto normalReach r ⌝ }
+{
+    let a = x.a;
+    let b = x.b;
+    let c = x.c;
+    plus(plus(a, b), c)
 }
 
 // Whether the support p is behind n, so that all of the difference is.
@@ -91,7 +104,8 @@ pub fn walk(q: Vec3, f: Three, from: Portal, g: Vec3, first: &[i32], second: &[i
     let mut t = from;
     loop {
         let v = places_of(t);
-        let n = normal_of(v);
+        let x = edges_of(v);
+        let n = normal_of(x);
         let p = support(n, g, first, second);
         let y = p.at;
         if behind(q, n, y) {
@@ -102,7 +116,7 @@ pub fn walk(q: Vec3, f: Three, from: Portal, g: Vec3, first: &[i32], second: &[i
                 last: p,
             };
         }
-        let s = round(q, f, v, y);
+        let s = round(q, f, v, x, y);
         if s == 0 {
             return Ended {
                 met: true,

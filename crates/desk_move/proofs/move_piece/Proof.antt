@@ -3,6 +3,7 @@
 use mathlib.Core.Path.{refl}
 use mathlib.Core.Logic.{inl}
 use native.Mathlib.Omega.{arith}
+use borrow.Author.Tests.{not-false}
 use mir.Syntax.{w32}
 use mir.ValLaws.{toZ-ofZ}
 use Rattle.limits.specs.DecidesLaws.{unless-taken, unless-left}
@@ -13,14 +14,30 @@ use borrow.Author.Needs.{needs}
 use Rattle.desk_move.proofs.move_piece.Statement.{statement}
 use Rattle.desk_move.proofs.move_piece.Tie as tie
 
-desk-in-order-requires : tie.Need-desk-in-order-requires
-desk-in-order-requires c κs = search needs
+-- where the command starts, seen from the order test
+abbrev start : tie.After-desk-tested → tie.Start
+start c = c .before .before .before .before .before .before .before .before .before .before .before .before .before .before
+
+boxes-of-requires : tie.Need-boxes-of-requires
+boxes-of-requires c κs = search needs
+
+no-keys-requires : tie.Need-no-keys-requires
+no-keys-requires c κs = search needs
+
+no-keys-requires-2 : tie.Need-no-keys-requires-2
+no-keys-requires-2 c κs = search needs
+
+no-keys-requires-3 : tie.Need-no-keys-requires-3
+no-keys-requires-3 c κs = search needs
+
+desk-tested-requires : tie.Need-desk-tested-requires
+desk-tested-requires c κs = search needs
 
 same-length : tie.Need-same-length
 same-length c = search needs
 
 returns : tie.Need-returns
-returns c = refuses (inl (unless-taken (c .before .desk-in-order .ensures) (c .if1 .taken), refl)) (omega arith)
+returns c = refuses (inl (unless-taken (c .before .desk-tested .ensures .0) (c .if1 .taken), refl)) (omega arith)
 
 move-refusal-requires : tie.Need-move-refusal-requires
 move-refusal-requires c κs = search needs
@@ -30,45 +47,56 @@ same-length-2 c = search needs
 
 returns-2 : tie.Need-returns-2
 returns-2 c =
-    let s = c .before .before .before .before .before .before .before .before .before .before in
+    let k = c .before in
+    let u = k .before .before in
+    let s = start (u .before) in
     let a = s .args in
     move-refused (deskOf (a .shapes .now) (a .places .now) (a .rows .now) (a .book .now) (a .marks .now)) (a .place) (a .turn) (a .o)
-    (toZ-ofZ w32 (a .place) (s .fits .place)) (toZ-ofZ w32 (a .turn) (s .fits .turn)) (unless-left (c .before .before .before .before .desk-in-order .ensures) (c .before .before .before .if1 .left))
-    (c .before .move-refusal .result) (c .before .move-refusal .ensures) (c .if2 .taken)
+    (toZ-ofZ w32 (a .place) (s .fits .place)) (toZ-ofZ w32 (a .turn) (s .fits .turn)) (unless-left (u .before .desk-tested .ensures .0) (u .if1 .left))
+    (k .move-refusal .result) (k .move-refusal .ensures) (c .if2 .taken)
 
 index-of-requires : tie.Need-index-of-requires
 index-of-requires c κs = search needs
 
 move-to-requires : tie.Need-move-to-requires
 move-to-requires c κs =
-    let s = c .before .before .before .before .before .before .before .before .before .before .before .before .before .before .before in
-    let a = s .args in
-    may-move (deskOf (a .shapes .now) (a .places .now) (a .rows .now) (a .book .now) (a .marks .now)) (a .place) (a .turn) (a .o)
-    (toZ-ofZ w32 (a .place) (s .fits .place)) (toZ-ofZ w32 (a .turn) (s .fits .turn))
-    (unless-left (c .before .before .before .before .before .before .before .before .before .desk-in-order .ensures) (c .before .before .before .before .before .before .before .before .if1 .left))
-    (c .before .before .before .before .before .before .move-refusal .result) (c .before .before .before .before .before .before .move-refusal .ensures)
-    (c .before .before .before .before .before .if2 .left) (c .before .before .before .before .index-of .ensures)
+    let i = c .before .before .before .before .before .before .before .before in
+    let t = i .before in
+    let k = t .before in
+    let u = k .before .before in
+    let s = start (u .before) in
+    let a = s .args in (
+      may-move (deskOf (a .shapes .now) (a .places .now) (a .rows .now) (a .book .now) (a .marks .now)) (a .place) (a .turn) (a .o)
+          (toZ-ofZ w32 (a .place) (s .fits .place)) (toZ-ofZ w32 (a .turn) (s .fits .turn)) (unless-left (u .before .desk-tested .ensures .0) (u .if1 .left))
+          (k .move-refusal .result) (k .move-refusal .ensures) (t .if2 .left) (i .index-of .ensures),
+      u .before .desk-tested .ensures .1 (not-false _ (u .if1 .left)),
+    )
 
 same-length-3 : tie.Need-same-length-3
 same-length-3 c = search needs
 
 returns-3 : tie.Need-returns-3
 returns-3 c =
-    let s = c .before .before .before .before .before .before .before .before .before .before .before .before .before .before .before .before .before .before in
+    let m = c .before .before in
+    let i = m .before .before .before .before .before .before .before .before .before in
+    let t = i .before in
+    let k = t .before in
+    let u = k .before .before in
+    let s = start (u .before) in
     let a = s .args in
     moved (deskOf (a .shapes .now) (a .places .now) (a .rows .now) (a .book .now) (a .marks .now)) (a .place) (a .turn) (a .o)
-    (toZ-ofZ w32 (a .place) (s .fits .place)) (toZ-ofZ w32 (a .turn) (s .fits .turn))
-    (unless-left (c .before .before .before .before .before .before .before .before .before .before .before .before .desk-in-order .ensures)
-    (c .before .before .before .before .before .before .before .before .before .before .before .if1 .left))
-    (c .before .before .before .before .before .before .before .before .before .move-refusal .result)
-    (c .before .before .before .before .before .before .before .before .before .move-refusal .ensures) (c .before .before .before .before .before .before .before .before .if2 .left)
-    (c .before .before .before .before .before .before .before .index-of .ensures) (c .before .before .move-to .ensures)
+    (toZ-ofZ w32 (a .place) (s .fits .place)) (toZ-ofZ w32 (a .turn) (s .fits .turn)) (unless-left (u .before .desk-tested .ensures .0) (u .if1 .left))
+    (k .move-refusal .result) (k .move-refusal .ensures) (t .if2 .left) (i .index-of .ensures) (m .move-to .ensures)
 
 pub move-piece-spec : {M : Type 1} → statement M
 move-piece-spec =
     tie.close
     (tie.spec
-    desk-in-order-requires
+    boxes-of-requires
+    no-keys-requires
+    no-keys-requires-2
+    no-keys-requires-3
+    desk-tested-requires
     same-length
     returns
     move-refusal-requires

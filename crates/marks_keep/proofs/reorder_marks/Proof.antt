@@ -1,8 +1,7 @@
 -- Three parts, one after the other, each lent to the reordering function.
 use borrow.Author.Needs.{needs}
-use Rattle.marks.specs.Keys.{keyOf}
-use Rattle.marks.specs.Sorted.{reordered}
-use Rattle.marks_keep.proofs.Parts.{three-functions, reordered-marks}
+use Rattle.marks.specs.Promises.{Reordered}
+use Rattle.marks_keep.proofs.Parts.{three-lent, all-reordered}
 use Rattle.marks_keep.proofs.reorder_marks.Statement.{statement}
 use Rattle.marks_keep.proofs.reorder_marks.Tie as tie
 
@@ -47,15 +46,14 @@ same-length c = search needs
 
 returns : tie.Need-returns
 returns c =
-    let s = c .before .before .before .before .before .before .before .before .before .before .before .before .before in
+    let s = c .before .before .before .before .before .before .before .before .before .before .before .before .before .before .before .before in
     let a = s .args in
-    let rx = c .before .before .before .before .before .before .before .before .before .before .reorder in
-    let ry = c .before .before .before .before .before .before .reorder2 in
+    let rx = c .before .before .before .before .before .before .before .before .before .before .before .before .reorder in
+    let ry = c .before .before .before .before .before .before .before .reorder2 in
     let rz = c .before .before .reorder3 in
-    reordered-marks (a .x .now) (a .y .now) (a .z .now) (a .place) (a .marks .now) _ (s .pre .1)
-    (three-functions (reordered (keyOf (a .x .now)) (a .place)) (reordered (keyOf (a .y .now)) (a .place)) (reordered (keyOf (a .z .now)) (a .place)) (a .marks .now) (rx .last .0) (ry .last .0)
-    (rz .last .0) (s .pre .0)
-    (rx .ensures .is) (rx .kept .0) (ry .ensures .is) (ry .kept .0) (rz .ensures .is) (rz .kept .0))
+    all-reordered (three-lent (Reordered (a .place) (a .new-x) (a .x .now) (rx .last .1 .0)) (Reordered (a .place) (a .new-y) (a .y .now) (ry .last .1 .0))
+    (Reordered (a .place) (a .new-z) (a .z .now) (rz .last .1 .0)) (a .marks .now) (rx .last .0) (ry .last .0) (rz .last .0) (s .pre .0)
+    (rx .ensures) (rx .kept .0) (ry .ensures) (ry .kept .0) (rz .ensures) (rz .kept .0))
 
 pub reorder-marks-spec : {M : Type 1} → statement M
 reorder-marks-spec =

@@ -14,10 +14,10 @@ use Rattle.pieces_test.proofs.shapes_in_order.Statement.{statement}
 use Rattle.pieces_test.proofs.shapes_in_order.Tie as tie
 
 abbrev Inv-loop : tie.InvT-loop
-Inv-loop shapes shape₀ shape = (shape ≤ Limits.shapes) × ((i : ℕ) → i < shape → ShapeInOrder (storeOf shapes []) i)
+Inv-loop shapes boxes shape₀ shape = (shape ≤ Limits.shapes) × ((i : ℕ) → i < shape → ShapeInOrder (storeOf shapes []) i)
 
 abbrev μ-loop : tie.MeasureT-loop
-μ-loop shapes shape₀ shape = Limits.shapes - shape
+μ-loop shapes boxes shape₀ shape = Limits.shapes - shape
 
 loop-holds : tie.Need-loop-holds Inv-loop μ-loop
 loop-holds c = (omega arith, λ i h. absurd (omega arith))

@@ -53,6 +53,9 @@ loop-again c =
       omega (arith, ap length (contacts-more rows (l .k) (omega arith)), length-append (contacts (take (l .k) rows)) (listed (l .k) v), listed-length (l .k) v),
     )
 
+cast-result : tie.Need-cast-result Inv-loop μ-loop
+cast-result c = search needs
+
 returns : tie.Need-returns Inv-loop μ-loop
 returns c =
     let l = c .before .loop in
@@ -74,4 +77,5 @@ count-contacts-spec =
     add-k
     loop-less
     loop-again
+    cast-result
     returns)

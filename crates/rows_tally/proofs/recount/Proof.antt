@@ -1,58 +1,49 @@
--- `rows_tally::recount` meets its contract. The invariant: the book is in order for the first k rows.
--- The measure is how many rows are left.
-use Prim.Native.Nat.{ℕ, _≤_, _-_}
-use mathlib.Core.List.{List}
-use mathlib.Core.Path.{subst}
+-- `rows_tally::recount` meets its contract. The invariant: the tallies so far are counted, and the rest of the book is 0.
+-- The measure is how many verdicts are left.
+use Prim.Native.Nat.{_≤_, _-_}
 use native.Mathlib.Omega.{arith}
-use lib.Seq.{take-all}
-use lib.ListN.{getD, take, length-take}
 use borrow.Author.Needs.{needs}
 use Rattle.limits.specs.Limits
-use Rattle.rows_tally.specs.Counting.{book-none, book-most, book-more}
-use Rattle.rows_tally.specs.Tallies.{BookInOrder}
+use Rattle.rows_tally.specs.Counting.{BookTo, book-none, book-more}
 use Rattle.rows_tally.proofs.recount.Statement.{statement}
 use Rattle.rows_tally.proofs.recount.Tie as tie
 
 abbrev Inv-loop : tie.InvT-loop
-Inv-loop rows book₀ k₀ book k = (k ≤ Limits.rows) × BookInOrder (take k rows) book
+Inv-loop rows book₀ verdict₀ book verdict = (verdict ≤ Limits.tallies) × BookTo verdict rows book
 
 abbrev μ-loop : tie.MeasureT-loop
-μ-loop rows book₀ k₀ book k = Limits.rows - k
-
-sized-rows-requires : tie.Need-sized-rows-requires Inv-loop μ-loop
-sized-rows-requires c κs = search needs
+μ-loop rows book₀ verdict₀ book verdict = Limits.tallies - verdict
 
 loop-holds : tie.Need-loop-holds Inv-loop μ-loop
-loop-holds c = (omega arith, book-none)
+loop-holds c = (omega arith, book-none _)
 
-element-copy-out-count-row : tie.Need-element-copy-out-count-row Inv-loop μ-loop
-element-copy-out-count-row c = search needs
+cast-tally-of : tie.Need-cast-tally-of Inv-loop μ-loop
+cast-tally-of c = search needs
 
-count-row-requires : tie.Need-count-row-requires Inv-loop μ-loop
-count-row-requires c κs =
-    let l = c .before .before .before .loop in
-    let rows = c .before .before .before .before .before .before .args .rows .now in
-    omega (arith, book-most (l .inv .1) (getD rows (l .k) 0), length-take (l .k) rows)
+tally-of-requires : tie.Need-tally-of-requires Inv-loop μ-loop
+tally-of-requires c κs = search needs
 
-add-k : tie.Need-add-k Inv-loop μ-loop
-add-k c = search needs
+mul-book : tie.Need-mul-book Inv-loop μ-loop
+mul-book c = search needs
+
+element-write-book : tie.Need-element-write-book Inv-loop μ-loop
+element-write-book c = search needs
+
+add-verdict : tie.Need-add-verdict Inv-loop μ-loop
+add-verdict c = search needs
 
 loop-less : tie.Need-loop-less Inv-loop μ-loop
 loop-less c = search needs
 
 loop-again : tie.Need-loop-again Inv-loop μ-loop
 loop-again c =
-    let l = c .before .before .before .before .loop in
-    let s = c .before .before .before .before .before .before in
-    let rows = s .before .args .rows .now in
-    (omega arith, rw (c .count-row .ensures) (book-more rows (l .book) (l .k) (omega (arith, s .sized-rows .ensures .1)) (l .inv .1)))
+    let l = c .before .before .loop in
+    (omega arith, book-more (omega arith) (c .tally-of .ensures) (l .inv .1))
 
 returns : tie.Need-returns Inv-loop μ-loop
 returns c =
-    let l = c .before .loop in
-    let s = c .before .before .before in
-    let rows = s .before .args .rows .now in
-    subst (λ (r : List ℕ). BookInOrder r (l .book)) (take-all (l .k) rows (omega (arith, s .sized-rows .ensures .1))) (l .inv .1)
+    let b = c .before .loop .inv .1 in
+    record { size = b .size; counts = λ v h. b .counts v (omega arith); rest = λ k h. b .rest k (omega arith) }
 
 pub recount-spec : {M : Type 1} → statement M
 recount-spec =
@@ -60,11 +51,12 @@ recount-spec =
     (tie.spec
     Inv-loop
     μ-loop
-    sized-rows-requires
     loop-holds
-    element-copy-out-count-row
-    count-row-requires
-    add-k
+    cast-tally-of
+    tally-of-requires
+    mul-book
+    element-write-book
+    add-verdict
     loop-less
     loop-again
     returns)

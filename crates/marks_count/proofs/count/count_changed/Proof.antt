@@ -1,71 +1,60 @@
--- Each round adds what one mark counts; the own two marks count nothing.
+-- The count below the own two marks and the count above them are the count of the definition.
 use borrow.Author.Needs.{needs}
-use mathlib.Core.Path.{_≡_, ap, sym, _∙_}
-use Prim.Native.Nat.{ℕ, _-_, _*_, _≤_}
 use native.Mathlib.Omega.{arith}
-use Rattle.limits.specs.Limits
-use Rattle.ints.specs.Counts.{sumTo, sum-none, sum-more}
-use Rattle.marks.specs.Changed.{crossedAt, crossed≤, changedKeys, changedKeys≤, true-count}
+use mathlib.Core.Path.{_∙_}
+use Rattle.marks.specs.Changed.{in-two, changedKeys≤, true-count}
 use Rattle.marks_count.proofs.count.count_changed.Statement.{statement}
 use Rattle.marks_count.proofs.count.count_changed.Tie as tie
 
-abbrev Inv-loop : tie.InvT-loop
-Inv-loop old new place n₀ other₀ n other = (other ≤ Limits.axisMarks) × (n ≤ 2 * other) × (n ≡ sumTo other (crossedAt old new place))
+keys-at-requires : tie.Need-keys-at-requires
+keys-at-requires c κs = search needs
 
-abbrev μ-loop : tie.MeasureT-loop
-μ-loop old new place n₀ other₀ n other = Limits.axisMarks - other
+keys-at-requires-2 : tie.Need-keys-at-requires-2
+keys-at-requires-2 c κs = search needs
 
-two : (c : tie.After-crossed-at Inv-loop μ-loop) → c .crossed-at .result ≤ 2
-two c =
-    let l = c .before .before .loop in
-    let a = c .before .before .before .args in
-    omega (arith, c .crossed-at .ensures, crossed≤ (a .old .now) (a .new .now) (a .place) (l .other))
+mul-count-between : tie.Need-mul-count-between
+mul-count-between c = search needs
 
-loop-holds : tie.Need-loop-holds Inv-loop μ-loop
-loop-holds c = (search needs, search needs, sym (sum-none _))
+count-between-requires : tie.Need-count-between-requires
+count-between-requires c κs = search needs
 
-crossed-at-requires : tie.Need-crossed-at-requires Inv-loop μ-loop
-crossed-at-requires c κs = search needs
+mul-count-between-2 : tie.Need-mul-count-between-2
+mul-count-between-2 c = search needs
 
-add-n : tie.Need-add-n Inv-loop μ-loop
-add-n c = omega (arith, two c)
+add-count-between : tie.Need-add-count-between
+add-count-between c = search needs
 
-add-other : tie.Need-add-other Inv-loop μ-loop
-add-other c = search needs
+count-between-requires-2 : tie.Need-count-between-requires-2
+count-between-requires-2 c κs = search needs
 
-loop-less : tie.Need-loop-less Inv-loop μ-loop
-loop-less c = search needs
+add-result : tie.Need-add-result
+add-result c = search needs
 
-loop-again : tie.Need-loop-again Inv-loop μ-loop
-loop-again c =
-    let l = c .before .before .loop in
-    let a = c .before .before .before .args in
-    (search needs, omega (arith, two c), omega (arith, c .crossed-at .ensures, l .inv .2, sum-more (l .other) (crossedAt (a .old .now) (a .new .now) (a .place))))
-
-returns : tie.Need-returns Inv-loop μ-loop
-unfolding changedKeys
+returns : tie.Need-returns
 returns c =
-    let l = c .before .loop in
-    let s = c .before .before in
+    let s = c .before .before .before .before in
     let a = s .args in
-    let k : l .other ≡ Limits.axisMarks = omega arith in
-    let e : l .n ≡ sumTo Limits.axisMarks (crossedAt (a .old .now) (a .new .now) (a .place)) = l .inv .2 ∙ ap (λ (z : ℕ). sumTo z (crossedAt (a .old .now) (a .new .now) (a .place))) k in
+    let was = c .before .before .before .keys-at in
+    let is = c .before .before .keys-at2 in
+    let below = c .before .count-between in
+    let above = c .count-between2 in
+    let e = in-two (a .old .now) (a .new .now) (a .place) (s .pre) (was .result) (is .result) (was .ensures) (is .ensures) (below .result) (above .result) (below .ensures .1) (above .ensures .1) in
     record {
       is = e;
       most = omega (arith, e, changedKeys≤ (a .old .now) (a .new .now) (a .place) (s .pre));
-      true-count = λ o n ho hn st was is. e ∙ true-count o n (a .old .now) (a .new .now) (a .place) (s .pre) ho hn st was is;
+      true-count = λ o n ho hn st h i. e ∙ true-count o n (a .old .now) (a .new .now) (a .place) (s .pre) ho hn st h i;
     }
 
 pub count-changed-spec : {M : Type 1} → statement M
 count-changed-spec =
     tie.close
     (tie.spec
-    Inv-loop
-    μ-loop
-    loop-holds
-    crossed-at-requires
-    add-n
-    add-other
-    loop-less
-    loop-again
+    keys-at-requires
+    keys-at-requires-2
+    mul-count-between
+    count-between-requires
+    mul-count-between-2
+    add-count-between
+    count-between-requires-2
+    add-result
     returns)

@@ -3,7 +3,7 @@ use mathlib.Core.Path.{sym, subst}
 use Rattle.pieces.specs.Pieces.{storeOf}
 use Rattle.pieces.specs.Placed.{PoseFits, NumbersOf}
 use Rattle.pieces.specs.Store.{asked, held}
-use Rattle.pieces.specs.BoxLaws.{numbers-of}
+use Rattle.pieces.specs.NumberLaws.{numbers-of}
 use Rattle.pieces.proofs.placed.piece_numbers.Statement.{statement}
 use Rattle.pieces.proofs.placed.piece_numbers.Tie as tie
 

@@ -5,7 +5,7 @@ use mathlib.Core.Bool.{Bool, cond}
 use mir.Syntax.{w32}
 use mir.ValLaws.{toZ-ofZ}
 use Rattle.ints.specs.Tests.{test-is, tested}
-use Rattle.pieces.specs.declared.placed.Ends.{Ends}
+use Rattle.pieces_box.specs.declared.boxes.Ends.{Ends}
 use Rattle.pieces_box.specs.TurnedLaws.{ends-eq}
 use Rattle.pieces_box.proofs.keys.between.Statement.{statement}
 use Rattle.pieces_box.proofs.keys.between.Tie as tie

@@ -13,7 +13,7 @@ use Rattle.ints.specs.Bounds.{Within, worth, k-back, k-within}
 use Rattle.marks.specs.Keys.{keyFor}
 use Rattle.pieces.specs.Pieces.{Taken, storeOf, takenIn}
 use Rattle.pieces.specs.Store.{taken-is, empty-is}
-use Rattle.pieces.specs.declared.placed.Ends.{Ends}
+use Rattle.pieces_box.specs.declared.boxes.Ends.{Ends}
 use Rattle.pieces_box.specs.ShapeBox.{endsIn}
 use Rattle.pieces_box.specs.KeysLaws.{key-none, key-low, key-high, placed-ends}
 use borrow.Author.Needs.{needs}

@@ -1,6 +1,6 @@
 -- `verdict_frame::axis_of`: the tests compare bits, and a field's bits are its number.
 use Rattle.ints.specs.Bounds.{within-le}
-use Rattle.verdict_walk.specs.GatherLaws.{zero-bits}
+use Rattle.verdict_portal.specs.Rounds.{zero-bits}
 use Rattle.verdict_frame.specs.FrameLaws.{axis-last}
 use mathlib.Core.Path.{ap}
 use mir.Syntax.{w64}

@@ -6,7 +6,7 @@ use Rattle.ints.specs.Bounds.{Within}
 use Rattle.limits.specs.DecidesLaws.{fails}
 use Rattle.space.specs.Ranges.{upto-le}
 use Rattle.verdict_portal.specs.Rounds.{dot-within}
-use Rattle.verdict_walk.specs.GatherLaws.{zero-bits}
+use Rattle.verdict_portal.specs.Rounds.{zero-bits}
 use Rattle.verdict_frame.specs.FrameLaws.{zero-decided}
 use borrow.Author.Needs.{needs}
 use Rattle.verdict_frame.proofs.frame.level.Statement.{statement}

@@ -3,7 +3,8 @@ use mathlib.Core.Path.{ap}
 use mir.Syntax.{w64}
 use mir.Val.{ofZ}
 use Rattle.ints.specs.Bounds.{worth, k-back, k-within, within-le}
-use Rattle.verdict_walk.specs.GatherLaws.{push-none, push-some, zero-bits}
+use Rattle.verdict_walk.specs.GatherLaws.{push-none, push-some}
+use Rattle.verdict_portal.specs.Rounds.{zero-bits}
 use borrow.Author.Needs.{needs}
 use Rattle.verdict_walk.proofs.gather.push.Statement.{statement}
 use Rattle.verdict_walk.proofs.gather.push.Tie as tie

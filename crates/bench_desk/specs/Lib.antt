@@ -1,0 +1,3 @@
+pub mod Handing
+pub mod Replies
+pub mod ReplyLaws

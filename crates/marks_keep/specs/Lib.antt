@@ -1,0 +1,2 @@
+pub mod Slide
+pub mod SlideLaws
