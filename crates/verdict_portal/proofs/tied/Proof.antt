@@ -29,7 +29,8 @@ returns c =
     ap (λ z. ltZ z (pos 0))
     (sign-made (c .leading2 .ensures) (leading-within (c .before .cross2 .ensures .1) (p .3) (p .4) (p .5))
     ∙ tied-level (s .q) (s .p) (s .r) (s .f) (c .before .before .before .before .before .cross .ensures .0) (c .before .before .minus .ensures .0) (c .before .cross2 .ensures .0)
-    (zero-made (c .before .before .before .before .leading .ensures) (leading-within (c .before .before .before .before .before .cross .ensures .1) (p .3) (p .4) (p .5)) (c .before .before .before .if1 .taken)))
+    (zero-made (c .before .before .before .before .leading .ensures) (leading-within (c .before .before .before .before .before .cross .ensures .1) (p .3) (p .4) (p .5))
+    (c .before .before .before .if1 .taken)))
 
 returns-2 : tie.Need-returns-2
 returns-2 c =

@@ -28,32 +28,47 @@ support-requires : tie.Need-support-requires Inv-loop μ-loop
 support-requires c κs = let k = c .before .before .before .before .pre .0 in ((c .normal-of .ensures .1, k .box), (k .first, k .second))
 
 behind-requires : tie.Need-behind-requires Inv-loop μ-loop
-behind-requires c κs = (c .before .before .before .before .before .loop .inv .setting .inq, c .before .before .normal-of .ensures .1, point-upto (c .before .before .before .before .before .before .pre .0) (c .before .support .ensures .tagged))
+behind-requires c κs = (
+  c .before .before .before .before .before .loop .inv .setting .inq,
+  c .before .before .normal-of .ensures .1,
+  point-upto
+      (c .before .before .before .before .before .before .pre .0) (c .before .support .ensures .tagged),
+)
 
 returns : tie.Need-returns Inv-loop μ-loop
 returns c =
-    walked-apart (c .before .before .before .before .before .before .before .loop .inv) (c .before .before .before .before .before .before .places-of .ensures) (c .before .before .before .before .before .edges-of .ensures) (c .before .before .before .before .normal-of .ensures) (c .before .before .before .support .ensures) (said (c .before .behind .ensures) (c .if1 .taken))
+    walked-apart (c .before .before .before .before .before .before .before .loop .inv) (c .before .before .before .before .before .before .places-of .ensures)
+    (c .before .before .before .before .before .edges-of .ensures) (c .before .before .before .before .normal-of .ensures) (c .before .before .before .support .ensures) (said
+    (c .before .behind .ensures) (c .if1 .taken))
 
 round-requires : tie.Need-round-requires Inv-loop μ-loop
 round-requires c κs = (
-  ready (c .before .before .before .before .before .before .before .loop .inv) (c .before .before .before .before .before .before .places-of .ensures) (c .before .before .before .before .before .edges-of .ensures) (c .before .before .before .before .normal-of .ensures) (c .before .before .before .support .ensures) (c .before .before .before .before .before .before .before .before .pre .0) (unsaid (c .before .behind .ensures) (c .if1 .left)),
+  ready (c .before .before .before .before .before .before .before .loop .inv) (c .before .before .before .before .before .before .places-of .ensures)
+      (c .before .before .before .before .before .edges-of .ensures) (c .before .before .before .before .normal-of .ensures) (c .before .before .before .support .ensures)
+      (c .before .before .before .before .before .before .before .before .pre .0) (unsaid (c .before .behind .ensures) (c .if1 .left)),
   c .before .before .before .before .before .edges-of .ensures,
 )
 
 returns-2 : tie.Need-returns-2 Inv-loop μ-loop
 returns-2 c =
-    walked-met (c .before .before .before .before .before .before .before .before .before .loop .inv) (c .before .before .before .before .before .before .before .before .places-of .ensures) (c .before .before .before .before .before .before .before .edges-of .ensures) (c .before .before .before .before .before .before .normal-of .ensures) (c .before .before .before .before .before .support .ensures) (c .before .round .ensures) (c .if2 .taken)
+    walked-met (c .before .before .before .before .before .before .before .before .before .loop .inv) (c .before .before .before .before .before .before .before .before .places-of .ensures)
+    (c .before .before .before .before .before .before .before .edges-of .ensures) (c .before .before .before .before .before .before .normal-of .ensures)
+    (c .before .before .before .before .before .support .ensures) (c .before .round .ensures) (c .if2 .taken)
 
 replaced-requires : tie.Need-replaced-requires Inv-loop μ-loop
 replaced-requires c κs = search needs
 
 loop-less : tie.Need-loop-less Inv-loop μ-loop
 loop-less c =
-    onward (c .before .before .before .before .before .before .before .before .before .before .loop .inv) (c .before .before .before .before .before .before .before .before .before .places-of .ensures) (c .before .before .before .before .before .before .support .ensures .tagged) (c .before .before .round .ensures) (c .before .if2 .left) (c .replaced .ensures) .less
+    onward (c .before .before .before .before .before .before .before .before .before .before .loop .inv)
+    (c .before .before .before .before .before .before .before .before .before .places-of .ensures) (c .before .before .before .before .before .before .support .ensures .tagged)
+    (c .before .before .round .ensures) (c .before .if2 .left) (c .replaced .ensures) .less
 
 loop-again : tie.Need-loop-again Inv-loop μ-loop
 loop-again c =
-    onward (c .before .before .before .before .before .before .before .before .before .before .loop .inv) (c .before .before .before .before .before .before .before .before .before .places-of .ensures) (c .before .before .before .before .before .before .support .ensures .tagged) (c .before .before .round .ensures) (c .before .if2 .left) (c .replaced .ensures) .begun
+    onward (c .before .before .before .before .before .before .before .before .before .before .loop .inv)
+    (c .before .before .before .before .before .before .before .before .before .places-of .ensures) (c .before .before .before .before .before .before .support .ensures .tagged)
+    (c .before .before .round .ensures) (c .before .if2 .left) (c .replaced .ensures) .begun
 
 pub walk-spec : {M : Type 1} → statement M
 walk-spec =
