@@ -46,7 +46,7 @@ rows
 move 1 0 22 21 22
 pair 0 1
 rows
-# P on P: touching. P at (0,0,1): separate.
+# P on P: penetrating (W5). P at (0,0,1): separate.
 place 2 2 0 22 21 22
 pair 1 2
 rows
@@ -55,7 +55,7 @@ pair 1 2
 rows
 lists 3 0 0 0 3 0 0 0
 lists 3 0 0 0 3 0 0 1
-# Segments crossed at z = 0: touching; the second raised to z = 1: separate.
+# Segments crossed at z = 0: penetrating (W5); the second raised to z = 1: separate.
 lists 6 -10 0 0 10 0 0 6 0 -10 0 0 10 0
 lists 6 -10 0 0 10 0 0 6 0 -10 1 0 10 1
 fresh

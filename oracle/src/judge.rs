@@ -3,7 +3,9 @@
 
 use crate::point::{Number, Point, ORIGIN};
 use crate::program::{Expected, Program};
-use crate::verdict::{decide, direction_in_bounds, is_balance, is_below, is_not_above, Weighed};
+use crate::verdict::{
+    decide, direction_in_bounds, is_balance, is_below, is_below_once, is_not_above, Weighed,
+};
 use crate::words::passed_over;
 use std::io::{self, BufRead, Write};
 
@@ -75,7 +77,10 @@ fn witness_fault(claim: &Claim, first: &[Point], second: &[Point]) -> Option<&'s
         return Some("the direction does not part the lists");
     }
     if claim.verdict == 2 && !is_not_above(d, first, second) {
-        return Some("the direction is zero or has some corner on the wrong side");
+        return Some("the direction has some corner on the wrong side");
+    }
+    if claim.verdict == 2 && !is_below_once(d, first, second) {
+        return Some("the direction is zero or has all corners level");
     }
     if claim.verdict != 1 && !is_balance(&claim.pairs, first, second) {
         return Some("the weighted differences are no balance");
@@ -93,7 +98,7 @@ fn verdict_fault(answer: &[u8], first: &[Point], second: &[Point], search: bool)
     if let Some(fault) = witness_fault(&claim, first, second) {
         return Some(format!("0 {} ..: {fault}", right().number()));
     }
-    // A parting direction proves separate; a balance with a direction proves touching.
+    // A parting direction proves separate; a balance and a direction not level prove touching.
     let proved = matches!(claim.verdict, 1 | 2);
     if proved && !search {
         return None;

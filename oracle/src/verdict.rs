@@ -1,4 +1,4 @@
-//! The verdict of two corner lists by document 01's definition, every candidate direction tried.
+//! The verdict of two corner lists by document 01's definition as W5 amends it, every candidate tried.
 //! Witnesses that an answer carries are checked here against the same definition and its bounds.
 
 use crate::candidates::{candidates, distinct, factors};
@@ -41,12 +41,18 @@ pub fn is_below(d: Point, first: &[Point], second: &[Point]) -> bool {
         .all(|&a| second.iter().all(|&b| dot(d, a) < dot(d, b)))
 }
 
-/// d is not zero and d·a ≤ d·b for all a, b.
+/// d·a ≤ d·b for all a, b.
 pub fn is_not_above(d: Point, first: &[Point], second: &[Point]) -> bool {
-    d != ORIGIN
-        && first
-            .iter()
-            .all(|&a| second.iter().all(|&b| dot(d, a) <= dot(d, b)))
+    first
+        .iter()
+        .all(|&a| second.iter().all(|&b| dot(d, a) <= dot(d, b)))
+}
+
+/// d·a < d·b for at least one pair, which no zero d has.
+pub fn is_below_once(d: Point, first: &[Point], second: &[Point]) -> bool {
+    first
+        .iter()
+        .any(|&a| second.iter().any(|&b| dot(d, a) < dot(d, b)))
 }
 
 pub fn direction_in_bounds(d: Point) -> bool {
@@ -74,7 +80,14 @@ pub fn is_balance(pairs: &[Weighed], first: &[Point], second: &[Point]) -> bool 
     sum == ORIGIN
 }
 
-/// Two lists under trial: where a direction stands, with the differences that refuted lately at hand.
+/// The difference a − b that lies highest along d.
+fn highest(d: Point, first: &[Point], second: &[Point]) -> Option<Point> {
+    let &a = first.iter().max_by_key(|&&a| dot(d, a))?;
+    let &b = second.iter().min_by_key(|&&b| dot(d, b))?;
+    Some(minus(a, b))
+}
+
+/// Two lists under trial: what a direction tells, with the differences that refuted lately at hand.
 struct Trial<'a> {
     first: &'a [Point],
     second: &'a [Point],
@@ -86,23 +99,24 @@ struct Trial<'a> {
 const REFUTERS_KEPT: usize = 8;
 
 impl Trial<'_> {
-    /// The greatest d·(a − b), where it tells something.
-    fn height(&mut self, d: Point) -> Option<Number> {
+    /// The verdict that d shows, where it shows one: all below, or none above and not all level.
+    fn shown(&mut self, d: Point) -> Option<Verdict> {
         let telling = self.telling;
         if let Some(k) = self.refuters.iter().position(|&p| dot(d, p) > telling) {
             self.refuters.swap(0, k);
             return None;
         }
-        let &highest = self.first.iter().max_by_key(|&&a| dot(d, a))?;
-        let &lowest = self.second.iter().min_by_key(|&&b| dot(d, b))?;
-        let difference = minus(highest, lowest);
-        let height = dot(d, difference);
-        if height > telling {
-            self.refuters.insert(0, difference);
+        let top = highest(d, self.first, self.second)?;
+        if dot(d, top) > telling {
+            self.refuters.insert(0, top);
             self.refuters.truncate(REFUTERS_KEPT);
             return None;
         }
-        Some(height)
+        if dot(d, top) < 0 {
+            return Some(Verdict::Separate);
+        }
+        let bottom = highest(times(-1, d), self.first, self.second)?;
+        (dot(d, bottom) < 0).then_some(Verdict::Touching)
     }
 }
 
@@ -120,12 +134,12 @@ pub fn decide(first: &[Point], second: &[Point]) -> (Verdict, Point) {
     let mut found = (Verdict::Penetrating, ORIGIN);
     for candidate in candidates(&factors) {
         for d in [candidate, times(-1, candidate)] {
-            match trial.height(d) {
-                Some(0) => {
-                    found = (Verdict::Touching, d);
+            match trial.shown(d) {
+                Some(Verdict::Separate) => return (Verdict::Separate, d),
+                Some(verdict) => {
+                    found = (verdict, d);
                     trial.telling = -1;
                 }
-                Some(_) => return (Verdict::Separate, d),
                 None => {}
             }
         }

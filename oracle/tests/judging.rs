@@ -1,10 +1,13 @@
 //! Scripts of every kind, answered by the judge's own model, are found right to the last line;
 //! and every answer that is changed, dropped or added is found wrong.
 
+mod shared;
+
 use oracle::judge::{judge, Manner, Outcome};
 use oracle::maker::{make, Kind};
 use oracle::program::{answer, Expected, Program};
 use oracle::words::passed_over;
+use shared::{differences, independent};
 
 fn commands(script: &[u8]) -> Vec<&[u8]> {
     let lines = script.split(|&byte| byte == 10);
@@ -78,6 +81,25 @@ fn lists_of_all_three_verdicts_are_common() {
     }
 }
 
+/// Lists and desks bring pieces whose differences lie in one plane through the origin.
+#[test]
+fn flat_pairs_that_touch_and_that_penetrate_are_common() {
+    for (kind, count) in [(Kind::Lists, 600), (Kind::Desk, 3_000)] {
+        let answers = answered(&make(3, count, kind));
+        for verdict in ["0 2 ", "0 3 "] {
+            let flat = |expected: &Expected| match expected {
+                Expected::Verdict { first, second } => {
+                    independent(&differences(first, second)).len() < 3
+                }
+                _ => false,
+            };
+            let those = answers.iter().filter(|(_, line)| line.starts_with(verdict));
+            let flat = those.filter(|(expected, _)| flat(expected)).count();
+            assert!(flat >= 10, "{}: {flat} of {verdict}", kind.word());
+        }
+    }
+}
+
 #[test]
 fn a_changed_line_is_found() {
     let script = make(4, 120, Kind::All);
@@ -137,7 +159,13 @@ fn missing_and_surplus_answers_are_found() {
 #[test]
 fn witnesses_are_held_to_the_definition() {
     let apart = "lists 3 0 0 0 3 0 0 1";
-    let touching = "lists 6 -1 0 0 1 0 0 6 0 -1 0 0 1 0";
+    let crossed = "lists 6 -1 0 0 1 0 0 6 0 -1 0 0 1 0";
+    // Two sheets in one plane that share an edge, and two that share a quarter.
+    let beside = "lists 12 0 0 0 2 0 0 0 2 0 2 2 0 12 2 0 0 4 0 0 2 2 0 4 2 0";
+    let over = "lists 12 0 0 0 2 0 0 0 2 0 2 2 0 12 1 1 0 3 1 0 1 3 0 3 3 0";
+    // The crossed segments with a corner each, below and above: they touch.
+    let touching = "lists 9 -1 0 0 1 0 0 0 0 -1 9 0 -1 0 0 1 0 0 0 1";
+    let on_itself = "lists 3 5 6 7 3 5 6 7";
     let inside = "lists 12 0 0 0 4 0 0 0 4 0 0 0 4 3 1 1 1";
     let cases = [
         (apart, "0 1 0 0 1 0", 0),
@@ -151,8 +179,24 @@ fn witnesses_are_held_to_the_definition() {
         (apart, "0 1 0 0 1", 1),
         (apart, "0 1 0 0 01 0", 1),
         (apart, "0 1 0 -0 1 0", 1),
+        (crossed, "0 3 0 0 0 2 0 0 1 1 1 1", 0),
+        (crossed, "0 2 0 0 1 2 0 0 1 1 1 1", 1),
+        (crossed, "0 2 0 0 -1 2 0 0 1 1 1 1", 1),
+        (crossed, "0 1 0 0 1 0", 1),
+        (beside, "0 2 1 0 0 1 1 0 1", 0),
+        (beside, "0 2 1 0 7 1 1 0 1", 0),
+        (beside, "0 2 0 0 1 1 1 0 1", 1),
+        (beside, "0 2 0 0 -1 1 1 0 1", 1),
+        (beside, "0 2 -1 0 0 1 1 0 1", 1),
+        (beside, "0 3 0 0 0 1 1 0 1", 1),
+        (over, "0 3 0 0 0 2 0 0 1 3 0 1", 0),
+        (over, "0 2 0 0 1 2 0 0 1 3 0 1", 1),
+        (over, "0 2 1 0 0 2 0 0 1 3 0 1", 1),
+        (on_itself, "0 3 0 0 0 1 0 0 1", 0),
+        (on_itself, "0 2 0 0 1 1 0 0 1", 1),
         (touching, "0 2 0 0 1 2 0 0 1 1 1 1", 0),
-        (touching, "0 2 0 0 -9 2 1 0 7 0 1 7", 0),
+        (touching, "0 2 0 0 9 2 1 0 7 0 1 7", 0),
+        (touching, "0 2 0 0 -9 2 1 0 7 0 1 7", 1),
         (touching, "0 2 0 0 1 4 0 0 1 0 0 2 1 1 1 1 1 2", 0),
         (
             touching,

@@ -1,29 +1,13 @@
 //! The candidate family against searches and certificates that know nothing of it: wide direction
-//! searches on tiny grids, and balances, which prove meeting and, shifted six ways, penetrating.
+//! searches on tiny grids, and balances, which prove meeting and, shifted all ways, penetrating.
+
+mod shared;
 
 use oracle::balance::balance;
 use oracle::point::{minus, plus, times, Number, Point, AXES, ORIGIN};
-use oracle::verdict::{decide, is_balance, is_below, is_not_above, Verdict, Weighed};
-
-/// A plain generator of chance for the tests (a linear congruence).
-struct Chance(u64);
-
-impl Chance {
-    fn below(&mut self, count: u64) -> u64 {
-        self.0 = self.0.wrapping_mul(6_364_136_223_846_793_005);
-        self.0 = self.0.wrapping_add(1_442_695_040_888_963_407);
-        (self.0 >> 33) % count
-    }
-
-    fn between(&mut self, low: Number, high: Number) -> Number {
-        low + Number::from(self.below((high - low + 1) as u64))
-    }
-
-    fn list(&mut self, reach: Number, count: u64) -> Vec<Point> {
-        let corner = |c: &mut Chance| [0; 3].map(|_: Number| c.between(-reach, reach));
-        (0..count).map(|_| corner(self)).collect()
-    }
-}
+use oracle::verdict::{decide, is_balance, is_below, is_below_once, is_not_above};
+use oracle::verdict::{Verdict, Weighed};
+use shared::{differences, independent, Chance};
 
 /// For each direction of a cube of directions, the least and greatest value over the set.
 fn spans(set: &[Point], width: Number) -> Vec<(i64, i64)> {
@@ -41,15 +25,14 @@ fn spans(set: &[Point], width: Number) -> Vec<(i64, i64)> {
     spans
 }
 
-/// The verdict by all directions of the cube; the zero direction stands in the middle.
+/// The verdict by all directions of the cube: the first below, or nowhere above and below somewhere.
 fn by_spans(first: &[(i64, i64)], second: &[(i64, i64)]) -> Verdict {
-    let middle = first.len() / 2;
     let mut touching = false;
-    for (k, (a, b)) in first.iter().zip(second).enumerate() {
+    for (a, b) in first.iter().zip(second) {
         if a.1 < b.0 {
             return Verdict::Separate;
         }
-        touching |= k != middle && a.1 <= b.0;
+        touching |= a.1 <= b.0 && a.0 < b.1;
     }
     if touching {
         Verdict::Touching
@@ -66,10 +49,15 @@ fn compare(sets: &[Vec<Point>], width: Number, pairs: impl Iterator<Item = (usiz
         assert_eq!(verdict, wide, "{:?} {:?}", sets[i], sets[j]);
         match verdict {
             Verdict::Separate => assert!(is_below(d, &sets[i], &sets[j])),
-            Verdict::Touching => assert!(is_not_above(d, &sets[i], &sets[j])),
+            Verdict::Touching => assert!(shows_touching(d, &sets[i], &sets[j])),
             Verdict::Penetrating => assert_eq!(d, ORIGIN),
         }
     }
+}
+
+/// d·a ≤ d·b for all a, b, and d·a < d·b for at least one pair.
+fn shows_touching(d: Point, first: &[Point], second: &[Point]) -> bool {
+    is_not_above(d, first, second) && is_below_once(d, first, second)
 }
 
 fn grid(side: Number) -> Vec<Point> {
@@ -133,12 +121,27 @@ fn sums_to_zero(pairs: &[Weighed], first: &[Point], second: &[Point]) -> bool {
         && pairs.iter().map(term).fold(ORIGIN, plus) == ORIGIN
 }
 
-/// A small step in each of six directions still meets: the origin is inside the difference.
-fn is_inside(first: &[Point], second: &[Point], scale: Number) -> bool {
+/// Ways that lead everywhere in the space of the differences: the axes, or, where all differences lie
+/// in a plane, on a line or in a point, two of them, one or none.
+fn ways(first: &[Point], second: &[Point]) -> Vec<Point> {
+    let ways = independent(&differences(first, second));
+    if ways.len() == AXES.len() {
+        return AXES.to_vec();
+    }
+    ways
+}
+
+/// A small step in each of these ways, forward and back, still meets: in the space of the
+/// differences the origin is inside.
+fn is_inside(first: &[Point], second: &[Point], reach: Number) -> bool {
+    // No face of the difference comes nearer to the origin than 1 in its own numbers.
+    let ways = ways(first, second);
+    let step_size: Number = if ways == AXES { 1 } else { 12 * reach };
+    let scale = 64 * reach * reach * step_size;
     let scaled = |list: &[Point]| -> Vec<Point> { list.iter().map(|&p| times(scale, p)).collect() };
     let (first, second) = (scaled(first), scaled(second));
-    AXES.into_iter()
-        .flat_map(|axis| [axis, times(-1, axis)])
+    ways.into_iter()
+        .flat_map(|way| [way, times(-1, way)])
         .all(|step| {
             let moved: Vec<Point> = first.iter().map(|&a| plus(a, step)).collect();
             balance(&moved, &second).is_some_and(|pairs| sums_to_zero(&pairs, &moved, &second))
@@ -158,14 +161,12 @@ fn certify(first: &[Point], second: &[Point], reach: Number) -> Verdict {
             assert_eq!(balance(first, second), None);
         }
         Verdict::Touching => {
-            assert!(is_not_above(d, first, second), "{first:?} {second:?}");
+            assert!(shows_touching(d, first, second), "{first:?} {second:?}");
             meets();
         }
         Verdict::Penetrating => {
             meets();
-            // No face of the difference comes nearer to the origin than 1 in its own numbers.
-            let inside = is_inside(first, second, 64 * reach * reach);
-            assert!(inside, "{first:?} {second:?}");
+            assert!(is_inside(first, second, reach), "{first:?} {second:?}");
         }
     }
     verdict

@@ -1,24 +1,24 @@
--- A verdict by its witnesses: each condition of document 01's verdicts as a test that is computed, and the verdict where the tests pass.
+-- A verdict by its witnesses: each condition of document 01's verdicts, as W5 amends them, as a test that is computed, and the verdict where the tests pass.
 -- Nothing here speaks of the bench pieces.
 use mathlib.Core.Path.{_≡_, refl, sym, ap, _∙_, subst}
 use mathlib.Core.List.{List, [], _∷_, List·Memᴰ, List·Memᴰ·cases-cons, List·Memᴰ·not-nil, List·Memᴰ·head, List·Memᴰ·tail}
-use mathlib.Core.Bool.{Bool, true, _&&_}
-use mathlib.Core.Logic.{inl, inr, ⊎-elim}
+use mathlib.Core.Bool.{Bool, true, false, _&&_, _||_}
+use mathlib.Core.Logic.{_⊎_, inl, inr, ⊎-elim}
 use Prim.Native.Nat.{ℕ, _<_}
-use lib.Dec.{T, ltb, leb, ltb→lt, leb→le}
+use lib.Dec.{T, ltb, leb, eqb, ltb→lt, leb→le, eqb→eq}
 use lib.ListN.{length}
-use lib.IntN.{ℤ, pos, _+ℤ_, _*ℤ_}
-use lib.Signed.{_≤ℤ_, _<ℤ_, leZ, ltZ, leZ-yes, ltZ-yes, <ℤ-≤ℤ-trans}
+use lib.IntN.{ℤ, pos, negsuc}
+use lib.Signed.{_<ℤ_, leZ, ltZ, leZ-yes, ltZ-yes, <ℤ-irrefl}
 use Rattle.ints.specs.Quote.{sides, by-ring}
-use Rattle.ints.specs.Order.{le-comb, nn-of-le, le-or-lt, ≤ℤ-antisymm, lt→≤ℤ, pos-suc}
+use Rattle.ints.specs.Order.{≤ℤ-antisymm, eq-comb, z-diff}
 use Rattle.ints.specs.Sign.{gt-other}
 use Rattle.limits.specs.Limits.{weightMost}
 use Rattle.space.specs.declared.Vec3.{Vec3}
 use Rattle.space.specs.declared.Pair.{Pair}
-use Rattle.space.specs.Vectors.{dot, minus, det, origin, env1}
-use Rattle.space.specs.Verdicts.{Piece, cornerCount, cornerAt, Below, NotAbove, weighted, Fair, Balance, VerdictIs, separate, touching, penetrating}
-use Rattle.verdict_portal.specs.Portal.{ZeroSum, zero-sum-dot}
-use Rattle.verdict_portal.specs.Exits.{no-balance, frame-origin}
+use Rattle.space.specs.Vectors.{dot, minus, det, env1}
+use Rattle.space.specs.Verdicts.{Piece, cornerCount, cornerAt, Below, NotAbove, SomeBelow, weighted, Fair, Balance, VerdictIs, separate, touching, penetrating}
+use Rattle.space.specs.Exclusion.{supported-nonzero, balanced-level}
+use Rattle.verdict_portal.specs.Exits.{frame-origin}
 use Rattle.turns.specs.Table.{and-left, and-right, below, number}
 
 -- ---- the tests
@@ -46,13 +46,27 @@ abbrev pub isBalance : Piece → Piece → List Pair → Bool
 isBalance A B ps =
     (leb 1 (length ps) && leb (length ps) 4) && (areFair A B ps && (isZero (weighted (λ v. v .x) A B ps) && (isZero (weighted (λ v. v .y) A B ps) && isZero (weighted (λ v. v .z) A B ps))))
 
--- the difference a − b of a pair; where the last three of four in balance are independent, the origin is inside the four
+-- the difference a − b of a pair
 abbrev pub gap : Piece → Piece → Pair → Vec3
 gap A B p = minus (cornerAt A (p .first)) (cornerAt B (p .second))
 
-abbrev pub isTouching : Vec3 → List Pair → Piece → Piece → Bool
-isTouching d ps A B = isBalance A B ps && (ltZ (pos 0) (dot d d) && isNotAbove d A B)
+-- d·a < d·b for the corners i and j
+abbrev pub isParted : Vec3 → ℕ → ℕ → Piece → Piece → Bool
+isParted d i j A B = (ltb i (cornerCount A) && ltb j (cornerCount B)) && ltZ (dot d (cornerAt A i)) (dot d (cornerAt B j))
 
+abbrev pub isTouching : Vec3 → ℕ → ℕ → List Pair → Piece → Piece → Bool
+isTouching d i j ps A B = isBalance A B ps && (isNotAbove d A B && isParted d i j A B)
+
+-- a pair of corners is among those weighed
+abbrev pub isWeighed : ℕ → ℕ → List Pair → Bool
+isWeighed i j [] = false
+isWeighed i j (p ∷ ps) = (eqb i (p .first) && eqb j (p .second)) || isWeighed i j ps
+
+-- a balance of all pairs of corners: no direction parts one of them, so this serves flat pieces too
+abbrev pub isWhole : List Pair → Piece → Piece → Bool
+isWhole ps A B = isBalance A B ps && below (λ i. below (λ j. isWeighed i j ps) (cornerCount B)) (cornerCount A)
+
+-- where the last three of four in balance are independent, the origin is inside the four
 abbrev pub isPenetrating : Pair → Pair → Pair → Pair → Piece → Piece → Bool
 isPenetrating k l m n A B = isBalance A B (k ∷ l ∷ m ∷ n ∷ []) && ltZ (pos 0) (det (gap A B l) (gap A B m) (gap A B n))
 
@@ -104,75 +118,50 @@ balance-by A B ps t =
       zero-z = zero-by _ (and-right (isZero (weighted (λ v. v .y) A B ps)) _ last);
     }
 
--- ---- penetrating: the origin is inside a tetrahedron of four differences
-behind : (d a b : Vec3) → dot d a ≤ℤ dot d b → dot d (minus a b) ≤ℤ pos 0
-behind d a b h = le-comb (nn-of-le h) (by-ring (env1 d (env1 a (env1 b []))) (search sides depth 40) refl)
+parted-by : (d : Vec3) (i j : ℕ) (A B : Piece) → T (isParted d i j A B) → SomeBelow d A B
+parted-by d i j A B t =
+    let corners = and-left (ltb i (cornerCount A) && ltb j (cornerCount B)) _ t in
+    record {
+      first = i;
+      second = j;
+      of-first = ltb→lt i (cornerCount A) (and-left (ltb i (cornerCount A)) _ corners);
+      of-second = ltb→lt j (cornerCount B) (and-right (ltb i (cornerCount A)) _ corners);
+      less = ltZ-yes (and-right (ltb i (cornerCount A) && ltb j (cornerCount B)) _ t);
+    }
 
--- of four values that are not positive, weighed by positive weights, none is negative where the sum is zero
-level : (w0 w1 w2 w3 t u v w : ℤ) → pos 0 <ℤ w0 → pos 0 <ℤ w1 → pos 0 <ℤ w2 → pos 0 <ℤ w3
-    → t ≤ℤ pos 0 → u ≤ℤ pos 0 → v ≤ℤ pos 0 → w ≤ℤ pos 0 → w0 *ℤ t +ℤ w1 *ℤ u +ℤ w2 *ℤ v +ℤ w3 *ℤ w ≡ pos 0 → t ≡ pos 0
-level w0 w1 w2 w3 t u v w h0 h1 h2 h3 ht hu hv hw e =
-    ⊎-elim (λ k. ≤ℤ-antisymm ht k) (λ k. absurd (no-balance w0 w1 w2 w3 t u v w h0 (lt→≤ℤ h1) (lt→≤ℤ h2) (lt→≤ℤ h3) k hu hv hw e)) (le-or-lt (pos 0) t)
+-- ---- penetrating: each pair of a balance is level with a direction that has no pair above
+-- where every pair is weighed, none is parted
+either : (a b : Bool) → T (a || b) → T a ⊎ T b
+either true b t = inl tt
+either false b t = inr t
 
-four : (w0 w1 w2 w3 t u v w : ℤ) → w0 *ℤ t +ℤ (w1 *ℤ u +ℤ (w2 *ℤ v +ℤ (w3 *ℤ w +ℤ pos 0))) ≡ pos 0 → w0 *ℤ t +ℤ w1 *ℤ u +ℤ w2 *ℤ v +ℤ w3 *ℤ w ≡ pos 0
-four w0 w1 w2 w3 t u v w e = by-ring (w0 ∷ w1 ∷ w2 ∷ w3 ∷ t ∷ u ∷ v ∷ w ∷ []) (search sides depth 40) refl ∙ e
+weighed-level : (A B : Piece) (d : Vec3) (i j : ℕ) (ps : List Pair) → T (isWeighed i j ps) → ((p : Pair) → List·Memᴰ p ps → dot d (gap A B p) ≡ pos 0)
+    → dot d (minus (cornerAt A i) (cornerAt B j)) ≡ pos 0
+weighed-level A B d i j (p ∷ ps) t h = ⊎-elim
+    (λ k. ap (λ n. dot d (minus (cornerAt A n) (cornerAt B j))) (eqb→eq i (p .first) (and-left (eqb i (p .first)) _ k))
+    ∙ ap (λ n. dot d (minus (cornerAt A (p .first)) (cornerAt B n))) (eqb→eq j (p .second) (and-right (eqb i (p .first)) _ k)) ∙ h p (List·Memᴰ·head refl))
+    (λ k. weighed-level A B d i j ps k (λ q m. h q (List·Memᴰ·tail m))) (either (eqb i (p .first) && eqb j (p .second)) (isWeighed i j ps) t)
 
-zero-sum : {A B : Piece} {k l m n : Pair} → Balance A B (k ∷ l ∷ m ∷ n ∷ []) → ZeroSum (k .weight) (l .weight) (m .weight) (n .weight) (gap A B k) (gap A B l) (gap A B m) (gap A B n)
-unfolding weighted
-zero-sum {k} {l} {m} {n} b = record {
-  bx = four (k .weight) (l .weight) (m .weight) (n .weight) _ _ _ _ (b .zero-x);
-  by = four (k .weight) (l .weight) (m .weight) (n .weight) _ _ _ _ (b .zero-y);
-  bz = four (k .weight) (l .weight) (m .weight) (n .weight) _ _ _ _ (b .zero-z);
-}
-
-module _ {A B : Piece} {d : Vec3} (above : NotAbove d A B) where
-  gap-behind : {k : Pair} → Fair A B k → dot d (gap A B k) ≤ℤ pos 0
-  gap-behind {k} f = behind d (cornerAt A (k .first)) (cornerAt B (k .second)) (above .all (k .first) (k .second) (f .of-first) (f .of-second))
-
-  weighs : {k : Pair} → Fair A B k → pos 0 <ℤ k .weight
-  weighs f = <ℤ-≤ℤ-trans (pos-suc 0) (f .least)
-
-  level-of : {k l m n : Pair} → Fair A B k → Fair A B l → Fair A B m → Fair A B n
-      → k .weight *ℤ dot d (gap A B k) +ℤ l .weight *ℤ dot d (gap A B l) +ℤ m .weight *ℤ dot d (gap A B m) +ℤ n .weight *ℤ dot d (gap A B n) ≡ pos 0 → dot d (gap A B k) ≡ pos 0
-  level-of {k} {l} {m} {n} fk fl fm fn e =
-      level (k .weight) (l .weight) (m .weight) (n .weight) (dot d (gap A B k)) (dot d (gap A B l)) (dot d (gap A B m)) (dot d (gap A B n))
-      (weighs fk) (weighs fl) (weighs fm) (weighs fn) (gap-behind fk) (gap-behind fl) (gap-behind fm) (gap-behind fn) e
-
-  -- the second, third and fourth difference are level with d, so d is the origin where they are independent
-  level-gaps : {k l m n : Pair} → Fair A B k → Fair A B l → Fair A B m → Fair A B n → Balance A B (k ∷ l ∷ m ∷ n ∷ []) → (det (gap A B l) (gap A B m) (gap A B n) ≡ pos 0 → ⊥) → d ≡ origin
-  level-gaps {k} {l} {m} {n} fk fl fm fn b f =
-      let e = zero-sum-dot (zero-sum b) d in
-      frame-origin (gap A B l) (gap A B m) (gap A B n) d f
-      (level-of fl fk fm fn (second (k .weight) (l .weight) (m .weight) (n .weight) _ _ _ _ ∙ e))
-      (level-of fm fk fl fn (third (k .weight) (l .weight) (m .weight) (n .weight) _ _ _ _ ∙ e))
-      (level-of fn fk fl fm (fourth (k .weight) (l .weight) (m .weight) (n .weight) _ _ _ _ ∙ e))
-    where
-      second : (w0 w1 w2 w3 t u v w : ℤ) → w1 *ℤ u +ℤ w0 *ℤ t +ℤ w2 *ℤ v +ℤ w3 *ℤ w ≡ w0 *ℤ t +ℤ w1 *ℤ u +ℤ w2 *ℤ v +ℤ w3 *ℤ w
-      second w0 w1 w2 w3 t u v w = by-ring (w0 ∷ w1 ∷ w2 ∷ w3 ∷ t ∷ u ∷ v ∷ w ∷ []) (search sides depth 40) refl
-
-      third : (w0 w1 w2 w3 t u v w : ℤ) → w2 *ℤ v +ℤ w0 *ℤ t +ℤ w1 *ℤ u +ℤ w3 *ℤ w ≡ w0 *ℤ t +ℤ w1 *ℤ u +ℤ w2 *ℤ v +ℤ w3 *ℤ w
-      third w0 w1 w2 w3 t u v w = by-ring (w0 ∷ w1 ∷ w2 ∷ w3 ∷ t ∷ u ∷ v ∷ w ∷ []) (search sides depth 40) refl
-
-      fourth : (w0 w1 w2 w3 t u v w : ℤ) → w3 *ℤ w +ℤ w0 *ℤ t +ℤ w1 *ℤ u +ℤ w2 *ℤ v ≡ w0 *ℤ t +ℤ w1 *ℤ u +ℤ w2 *ℤ v +ℤ w3 *ℤ w
-      fourth w0 w1 w2 w3 t u v w = by-ring (w0 ∷ w1 ∷ w2 ∷ w3 ∷ t ∷ u ∷ v ∷ w ∷ []) (search sides depth 40) refl
+not-parted : (d a b : Vec3) → dot d a <ℤ dot d b → dot d (minus a b) ≡ pos 0 → ⊥
+not-parted d a b h e = <ℤ-irrefl (subst (λ z. dot d a <ℤ z) (eq-comb (z-diff (negsuc 0) e) (by-ring (env1 d (env1 a (env1 b []))) (search sides depth 40) refl)) h)
 
 -- ---- the verdicts
 pub separate-by : (d : Vec3) {A B : Piece} → T (isBelow d A B) → VerdictIs A B separate
 separate-by d {A} {B} t = inl (refl, record { direction = d; parts = below-by d A B t })
 
-pub touching-by : (d : Vec3) (ps : List Pair) {A B : Piece} → T (isTouching d ps A B) → VerdictIs A B touching
-touching-by d ps {A} {B} t =
-    let b = balance-by A B ps (and-left (isBalance A B ps) _ t) in
+pub touching-by : (d : Vec3) (i j : ℕ) (ps : List Pair) {A B : Piece} → T (isTouching d i j ps A B) → VerdictIs A B touching
+touching-by d i j ps {A} {B} t =
     let rest = and-right (isBalance A B ps) _ t in
     inr (inl (
       refl,
       record {
-        meeting = record { pairs = ps; balance = b };
+        meeting = record { pairs = ps; balance = balance-by A B ps (and-left (isBalance A B ps) _ t) };
         direction = d;
-        supported = record { nonzero = λ e. other-by (dot d d) (and-left (ltZ (pos 0) (dot d d)) _ rest) (ap (λ v. dot v v) e); above = not-above-by d A B (and-right (ltZ (pos 0) (dot d d)) _ rest) };
+        supported = record { above = not-above-by d A B (and-left (isNotAbove d A B) _ rest); parted = parted-by d i j A B (and-right (isNotAbove d A B) _ rest) };
       },
     ))
 
+-- the origin is inside a tetrahedron of four differences
 pub penetrating-by : (k l m n : Pair) {A B : Piece} → T (isPenetrating k l m n A B) → VerdictIs A B penetrating
 penetrating-by k l m n {A} {B} t =
     let b = balance-by A B (k ∷ l ∷ m ∷ n ∷ []) (and-left (isBalance A B (k ∷ l ∷ m ∷ n ∷ [])) _ t) in
@@ -182,11 +171,26 @@ penetrating-by k l m n {A} {B} t =
       record {
         meeting = record { pairs = k ∷ l ∷ m ∷ n ∷ []; balance = b };
         free = λ d w.
-            w .nonzero (level-gaps (w .above)
-            (b .fair k (List·Memᴰ·head refl))
-            (b .fair l (List·Memᴰ·tail (List·Memᴰ·head refl)))
-            (b .fair m (List·Memᴰ·tail (List·Memᴰ·tail (List·Memᴰ·head refl))))
-            (b .fair n (List·Memᴰ·tail (List·Memᴰ·tail (List·Memᴰ·tail (List·Memᴰ·head refl)))))
-            b f);
+            let level = balanced-level (w .above) b in
+            supported-nonzero w (frame-origin (gap A B l) (gap A B m) (gap A B n) d f
+            (level l (List·Memᴰ·tail (List·Memᴰ·head refl)))
+            (level m (List·Memᴰ·tail (List·Memᴰ·tail (List·Memᴰ·head refl))))
+            (level n (List·Memᴰ·tail (List·Memᴰ·tail (List·Memᴰ·tail (List·Memᴰ·head refl))))));
+      },
+    ))
+
+-- all pairs of corners balance
+pub whole-by : (ps : List Pair) {A B : Piece} → T (isWhole ps A B) → VerdictIs A B penetrating
+whole-by ps {A} {B} t =
+    let b = balance-by A B ps (and-left (isBalance A B ps) _ t) in
+    inr (inr (
+      refl,
+      record {
+        meeting = record { pairs = ps; balance = b };
+        free = λ d w.
+            let p = w .parted in
+            let weighed = number (λ j. isWeighed (p .first) j ps) (cornerCount B)
+            (number (λ i. below (λ j. isWeighed i j ps) (cornerCount B)) (cornerCount A) (and-right (isBalance A B ps) _ t) (p .first) (p .of-first)) (p .second) (p .of-second) in
+            not-parted d (cornerAt A (p .first)) (cornerAt B (p .second)) (p .less) (weighed-level A B d (p .first) (p .second) ps weighed (balanced-level (w .above) b));
       },
     ))

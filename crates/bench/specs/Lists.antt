@@ -1,12 +1,12 @@
 -- The verdicts of the table, of lists of placed corners: each by its witnesses, and the tests of Judging are computed.
--- A pair names a corner of the first list, a corner of the second and a weight.
+-- A pair names a corner of the first list, a corner of the second and a weight; a touching names two corners that its direction parts.
 use mathlib.Core.List.{[], _∷_}
 use Prim.Native.Nat.{ℕ}
 use lib.IntN.{ℤ, pos}
 use Rattle.space.specs.declared.Vec3.{Vec3}
 use Rattle.space.specs.declared.Pair.{Pair}
 use Rattle.space.specs.Verdicts.{Below, VerdictIs, cornerAt, weighted, separate, touching, penetrating}
-use Rattle.bench.specs.Judging.{below-by, separate-by, touching-by, penetrating-by}
+use Rattle.bench.specs.Judging.{below-by, separate-by, touching-by, penetrating-by, whole-by}
 use Rattle.bench.specs.Table.{B, T, P, alongX, alongY, placed}
 
 abbrev vec : ℤ → ℤ → ℤ → Vec3
@@ -17,7 +17,7 @@ pair a b weight = record { first = a; second = b; weight = pos weight }
 
 pub boxes-64 : VerdictIs (placed B 0 0 0) (placed B 64 0 0) touching
 unfolding cornerAt weighted
-boxes-64 = touching-by (vec (pos 1) (pos 0) (pos 0)) (pair 4 0 1 ∷ []) tt
+boxes-64 = touching-by (vec (pos 1) (pos 0) (pos 0)) 0 0 (pair 4 0 1 ∷ []) tt
 
 pub boxes-63 : VerdictIs (placed B 0 0 0) (placed B 63 0 0) penetrating
 unfolding cornerAt weighted
@@ -29,7 +29,7 @@ boxes-65 = separate-by (vec (pos 1) (pos 0) (pos 0)) tt
 
 pub corner-on-face : VerdictIs (placed T 0 0 0) (placed P 22 21 21) touching
 unfolding cornerAt weighted
-corner-on-face = touching-by (vec (pos 1) (pos 1) (pos 1)) (pair 1 0 22 ∷ pair 2 0 21 ∷ pair 3 0 21 ∷ []) tt
+corner-on-face = touching-by (vec (pos 1) (pos 1) (pos 1)) 0 0 (pair 1 0 22 ∷ pair 2 0 21 ∷ pair 3 0 21 ∷ []) tt
 
 pub corner-inside : VerdictIs (placed T 0 0 0) (placed P 21 21 21) penetrating
 unfolding cornerAt weighted
@@ -43,13 +43,13 @@ pub corner-outside : VerdictIs (placed T 0 0 0) (placed P 22 21 22) separate
 unfolding cornerAt
 corner-outside = separate-by (vec (pos 1) (pos 1) (pos 1)) tt
 
-pub points : VerdictIs (placed P 0 0 0) (placed P 0 0 0) touching
+pub points : VerdictIs (placed P 0 0 0) (placed P 0 0 0) penetrating
 unfolding cornerAt weighted
-points = touching-by (vec (pos 1) (pos 0) (pos 0)) (pair 0 0 1 ∷ []) tt
+points = whole-by (pair 0 0 1 ∷ []) tt
 
-pub segments : VerdictIs (placed alongX 0 0 0) (placed alongY 0 0 0) touching
+pub segments : VerdictIs (placed alongX 0 0 0) (placed alongY 0 0 0) penetrating
 unfolding cornerAt weighted
-segments = touching-by (vec (pos 0) (pos 0) (pos 1)) (pair 0 0 1 ∷ pair 1 1 1 ∷ []) tt
+segments = whole-by (pair 0 0 1 ∷ pair 0 1 1 ∷ pair 1 0 1 ∷ pair 1 1 1 ∷ []) tt
 
 pub segments-raised : VerdictIs (placed alongX 0 0 0) (placed alongY 0 0 1) separate
 unfolding cornerAt
@@ -66,4 +66,4 @@ boxes-64-32 = penetrating-by (pair 0 4 3) (pair 7 4 1) (pair 4 6 1) (pair 4 5 1)
 
 pub boxes-64-128 : VerdictIs (placed B 64 0 0) (placed B 128 0 0) touching
 unfolding cornerAt weighted
-boxes-64-128 = touching-by (vec (pos 1) (pos 0) (pos 0)) (pair 4 0 1 ∷ []) tt
+boxes-64-128 = touching-by (vec (pos 1) (pos 0) (pos 0)) 0 0 (pair 4 0 1 ∷ []) tt

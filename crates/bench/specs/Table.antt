@@ -1,4 +1,4 @@
--- THE STARRED TABLE: each case that document 01, "Bench pieces", marks with * is one field of `Starred`, stated by the definitions of the crates below.
+-- THE STARRED TABLE: each case that document 01, "Bench pieces", marks with * is one field of `Starred`, stated by the definitions of the crates below, as document 02 amends it.
 -- To be read beside the document; the proof is `starred` in Starred.antt. Verdicts: 1 separate, 2 touching, 3 penetrating; a row may also be 0, apart by boxes.
 use mathlib.Core.Path.{_≡_}
 use mathlib.Core.List.{List, [], _∷_, _++_}
@@ -112,10 +112,10 @@ pub record Starred : Type 0 where
   pub corner-outside : Between T P 22 21 22 separate separate
   pub corner-overlap : (d : Store) (p q : ℕ) → Holds d p T 0 0 0 → Holds d q P 22 21 22 → Apart d p q → ⊥
   pub corner-by : Below (record { x = pos 1; y = pos 1; z = pos 1 }) (placed T 0 0 0) (placed P 22 21 22)
-  -- "P on P: touching."
-  pub points : Between P P 0 0 0 touching touching
-  -- "Segments (±10,0,0) and (0,±10,0): touching; the second raised to z = 1: separate." Raised, its box is apart along z
-  pub segments : Between alongX alongY 0 0 0 touching touching
+  -- Document 01: "P on P: touching."; W5 amends it: "01's P on P and the crossed segments at z = 0 become penetrating; every other case stays."
+  pub points : Between P P 0 0 0 penetrating penetrating
+  -- Document 01: "Segments (±10,0,0) and (0,±10,0): touching; the second raised to z = 1: separate.", amended likewise. Raised, its box is apart along z
+  pub segments : Between alongX alongY 0 0 0 penetrating penetrating
   pub segments-raised : Between alongX alongY 0 0 1 separate 0
   -- "Places 0, 1, 2 hold B at x = 0, 64, 32. The whole listing is 0 1 2, 0 2 3, 1 2 3 (nine bytes)."
   pub listing : (d : Store) (rows : List ℕ) → HoldsThree d 0 64 32 → RightRows d rows → contacts rows ≡ 0 ∷ 1 ∷ 2 ∷ 0 ∷ 2 ∷ 3 ∷ 1 ∷ 2 ∷ 3 ∷ []

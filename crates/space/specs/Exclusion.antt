@@ -1,17 +1,18 @@
 -- What follows from the definitions: separate, touching and penetrating exclude each other, so a right verdict is one number, right both ways.
 -- That one of the three always holds is what the walk shows.
 use mathlib.Core.Path.{_≡_, refl, sym, ap, ap₂, _∙_, subst}
-use mathlib.Core.List.{List, [], _∷_, List·Memᴰ, List·Memᴰ·head, List·Memᴰ·tail}
+use mathlib.Core.List.{List, [], _∷_, List·Memᴰ, List·Memᴰ·head, List·Memᴰ·tail, List·Memᴰ·cases-cons, List·Memᴰ·not-nil}
 use mathlib.Core.Logic.{_⊎_, inl, inr, ⊎-elim}
 use Prim.Native.Nat.{ℕ, _+_, _≤_, _<_}
 use native.Mathlib.Omega.{arith}
 use lib.ListN.{length}
-use lib.IntN.{ℤ, pos, _+ℤ_, _-ℤ_, _*ℤ_}
+use lib.IntN.{ℤ, pos, negsuc, _+ℤ_, _-ℤ_, _*ℤ_, +ℤ-idr}
 use lib.Signed.{_≤ℤ_, _<ℤ_, <ℤ-irrefl, <ℤ-≤ℤ-trans, ≤ℤ-refl}
 use Rattle.ints.specs.Quote.{sides, by-ring}
-use Rattle.ints.specs.Order.{le-comb, lt-comb, nn-of-le, pos-of-lt, nn-add, nn-mul, pos-add, pos-mul, lt→≤ℤ, pos-suc}
-use Rattle.space.specs.Vectors.{Vec3, dot, minus, env1}
-use Rattle.space.specs.Verdicts.{Piece, Pair, cornerAt, Below, Separate, weighted, Fair, Balance, Meeting, Touching, Penetrating, VerdictIs, separate, touching, penetrating}
+use Rattle.ints.specs.Order.{le-comb, lt-comb, nn-of-le, pos-of-lt, nn-add, nn-mul, pos-add, pos-mul, lt→≤ℤ, pos-suc, ≤ℤ-antisymm, zero-product, eq-comb, z-diff}
+use Rattle.ints.specs.Sign.{gt-other}
+use Rattle.space.specs.Vectors.{Vec3, dot, minus, origin, env1}
+use Rattle.space.specs.Verdicts.{Piece, Pair, cornerAt, Below, NotAbove, Separate, weighted, Fair, Balance, Meeting, Supported, Touching, Penetrating, VerdictIs, separate, touching, penetrating}
 
 -- ---- a balance along a direction d
 weighted-dot : (d : Vec3) (A B : Piece) (ps : List Pair)
@@ -29,9 +30,12 @@ balance-dot {A} {B} {ps} b d =
     ∙ ap₂ (λ u v. d .x *ℤ u +ℤ d .y *ℤ v +ℤ d .z *ℤ weighted (λ w. w .z) A B ps) (b .zero-x) (b .zero-y)
     ∙ ap (λ u. d .x *ℤ pos 0 +ℤ d .y *ℤ pos 0 +ℤ d .z *ℤ u) (b .zero-z) ∙ by-ring (env1 d []) (search sides depth 9) refl
 
--- along a direction that parts the pieces, fair pairs weigh less than nothing
+-- along a direction that has no pair above, fair pairs weigh no more than nothing; where it parts them all, less
 positive : {A B : Piece} {p : Pair} → Fair A B p → pos 0 <ℤ p .weight
 positive f = <ℤ-≤ℤ-trans (pos-suc 0) (f .least)
+
+behind : (d a b : Vec3) → dot d a ≤ℤ dot d b → dot d (minus a b) ≤ℤ pos 0
+behind d a b h = le-comb (nn-of-le h) (by-ring (env1 d (env1 a (env1 b []))) (search sides depth 40) refl)
 
 gap : (d a b : Vec3) → dot d a <ℤ dot d b → pos 0 <ℤ (pos 0 -ℤ dot d (minus a b))
 gap d a b h = subst (λ z. pos 0 <ℤ z) (by-ring (env1 d (env1 a (env1 b []))) (search sides depth 40) refl) (pos-of-lt h)
@@ -39,16 +43,49 @@ gap d a b h = subst (λ z. pos 0 <ℤ z) (by-ring (env1 d (env1 a (env1 b []))) 
 outweighed : (w g r : ℤ) → pos 0 -ℤ (w *ℤ g +ℤ r) ≡ w *ℤ (pos 0 -ℤ g) +ℤ (pos 0 -ℤ r)
 outweighed w g r = by-ring (w ∷ g ∷ r ∷ []) (search sides depth 9) refl
 
-not-more : {d : Vec3} {A B : Piece} → Below d A B → (ps : List Pair) → ((p : Pair) → List·Memᴰ p ps → Fair A B p) → weighted (dot d) A B ps ≤ℤ pos 0
-unfolding weighted
-not-more b [] f = ≤ℤ-refl (pos 0)
-not-more {d} {A} {B} b (p ∷ ps) f =
-    let k = f p (List·Memᴰ·head refl) in
-    le-comb
-    (nn-add
-    (nn-mul (lt→≤ℤ (positive k)) (lt→≤ℤ (gap d (cornerAt A (p .first)) (cornerAt B (p .second)) (b .all (p .first) (p .second) (k .of-first) (k .of-second)))))
-    (nn-of-le (not-more b ps (λ q m. f q (List·Memᴰ·tail m)))))
-    (outweighed (p .weight) (dot d (minus (cornerAt A (p .first)) (cornerAt B (p .second)))) (weighted (dot d) A B ps))
+module _ {d : Vec3} {A B : Piece} (above : NotAbove d A B) where
+  pair-behind : {p : Pair} → Fair A B p → dot d (minus (cornerAt A (p .first)) (cornerAt B (p .second))) ≤ℤ pos 0
+  pair-behind {p} k = behind d (cornerAt A (p .first)) (cornerAt B (p .second)) (above .all (p .first) (p .second) (k .of-first) (k .of-second))
+
+  not-more : (ps : List Pair) → ((p : Pair) → List·Memᴰ p ps → Fair A B p) → weighted (dot d) A B ps ≤ℤ pos 0
+  unfolding weighted
+  not-more [] f = ≤ℤ-refl (pos 0)
+  not-more (p ∷ ps) f =
+      let k = f p (List·Memᴰ·head refl) in
+      le-comb (nn-add (nn-mul (lt→≤ℤ (positive k)) (nn-of-le (pair-behind k))) (nn-of-le (not-more ps (λ q m. f q (List·Memᴰ·tail m)))))
+      (outweighed (p .weight) (dot d (minus (cornerAt A (p .first)) (cornerAt B (p .second)))) (weighted (dot d) A B ps))
+
+  -- so where they balance, each of them is level with it
+  level-pairs : (ps : List Pair) → ((p : Pair) → List·Memᴰ p ps → Fair A B p) → weighted (dot d) A B ps ≡ pos 0
+      → (p : Pair) → List·Memᴰ p ps → dot d (minus (cornerAt A (p .first)) (cornerAt B (p .second))) ≡ pos 0
+  unfolding weighted
+  level-pairs [] f e p m = absurd (List·Memᴰ·not-nil m)
+  level-pairs (q ∷ ps) f e p m = ⊎-elim
+      (λ k. ap (λ (r : Pair). dot d (minus (cornerAt A (r .first)) (cornerAt B (r .second)))) k ∙ here)
+      (λ k. level-pairs ps (λ r l. f r (List·Memᴰ·tail l)) rest p k) (List·Memᴰ·cases-cons m)
+    where
+      g : ℤ
+      g = dot d (minus (cornerAt A (q .first)) (cornerAt B (q .second)))
+
+      r : ℤ
+      r = weighted (dot d) A B ps
+
+      fair : Fair A B q
+      fair = f q (List·Memᴰ·head refl)
+
+      rest : r ≡ pos 0
+      rest = ≤ℤ-antisymm (not-more ps (λ s l. f s (List·Memᴰ·tail l)))
+          (subst (λ z. pos 0 ≤ℤ z) (eq-comb (z-diff (negsuc 0) e) (by-ring (q .weight ∷ g ∷ r ∷ []) (search sides depth 9) refl)) (nn-mul (lt→≤ℤ (positive fair)) (nn-of-le (pair-behind fair))))
+
+      here : g ≡ pos 0
+      here = ⊎-elim (λ z. absurd (gt-other (positive fair) z)) (λ z. z) (zero-product (q .weight) g (sym (+ℤ-idr (q .weight *ℤ g)) ∙ ap (λ z. q .weight *ℤ g +ℤ z) (sym rest) ∙ e))
+
+pub balanced-level : {d : Vec3} {A B : Piece} {ps : List Pair} → NotAbove d A B → Balance A B ps
+    → (p : Pair) → List·Memᴰ p ps → dot d (minus (cornerAt A (p .first)) (cornerAt B (p .second))) ≡ pos 0
+balanced-level {d} {ps = ps} above b = level-pairs above ps (b .fair) (balance-dot b d)
+
+not-above : {d : Vec3} {A B : Piece} → Below d A B → NotAbove d A B
+not-above b = record { all = λ i j hi hj. lt→≤ℤ (b .all i j hi hj) }
 
 less : {d : Vec3} {A B : Piece} → Below d A B → (ps : List Pair) → 1 ≤ length ps → ((p : Pair) → List·Memᴰ p ps → Fair A B p) → weighted (dot d) A B ps <ℤ pos 0
 unfolding weighted
@@ -58,13 +95,23 @@ less {d} {A} {B} b (p ∷ ps) n f =
     lt-comb
     (pos-add
     (pos-mul (positive k) (gap d (cornerAt A (p .first)) (cornerAt B (p .second)) (b .all (p .first) (p .second) (k .of-first) (k .of-second))))
-    (nn-of-le (not-more b ps (λ q m. f q (List·Memᴰ·tail m)))))
+    (nn-of-le (not-more (not-above b) ps (λ q m. f q (List·Memᴰ·tail m)))))
     (outweighed (p .weight) (dot d (minus (cornerAt A (p .first)) (cornerAt B (p .second)))) (weighted (dot d) A B ps))
 
 -- ---- the exclusions
 pub not-both : {A B : Piece} → Separate A B → Meeting A B → ⊥
 not-both {A} {B} s m =
     <ℤ-irrefl (subst (λ z. z <ℤ pos 0) (balance-dot (m .balance) (s .direction)) (less (s .parts) (m .pairs) (m .balance .some) (m .balance .fair)))
+
+-- ---- what W5 asks of a direction implies what document 01 asked: it is not zero
+pub supported-nonzero : {A B : Piece} {d : Vec3} → Supported d A B → d ≡ origin → ⊥
+supported-nonzero {A} {B} s e =
+    let p = s .parted in
+    <ℤ-irrefl (subst (λ z. z <ℤ pos 0) (zero (cornerAt A (p .first))) (subst (λ z. dot origin (cornerAt A (p .first)) <ℤ z) (zero (cornerAt B (p .second)))
+    (subst (λ v. dot v (cornerAt A (p .first)) <ℤ dot v (cornerAt B (p .second))) e (p .less))))
+  where
+    zero : (v : Vec3) → dot origin v ≡ pos 0
+    zero v = by-ring (env1 v []) (search sides depth 9) refl
 
 pub not-touching : {A B : Piece} → Touching A B → Penetrating A B → ⊥
 not-touching t p = p .free (t .direction) (t .supported)

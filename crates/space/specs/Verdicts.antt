@@ -1,4 +1,4 @@
--- THE DEFINITIONS of document 01, "The verdicts": separate, meeting, touching, penetrating. No proof stands here: what follows from them is in Exclusion.
+-- THE DEFINITIONS of document 01, "The verdicts", with touching as W5 amends it: separate, meeting, touching, penetrating. No proof stands here: what follows from them is in Exclusion.
 -- "With a over placed corners of the first piece and b over those of the second."
 use mathlib.Core.Path.{_≡_}
 use mathlib.Core.List.{List, [], _∷_, List·Memᴰ}
@@ -8,7 +8,7 @@ use lib.ListN.{length, getD}
 use lib.IntN.{ℤ, pos, _+ℤ_, _*ℤ_}
 use lib.Signed.{_≤ℤ_, _<ℤ_}
 use Rattle.limits.specs.Limits
-use Rattle.space.specs.Vectors.{Vec3, dot, minus, origin}
+use Rattle.space.specs.Vectors.{Vec3, dot, minus}
 pub use Rattle.space.specs.declared.Pair.{Pair}
 
 -- a piece is a list of placed corners, three numbers each; corners count from 0
@@ -60,18 +60,28 @@ pub record Meeting (A B : Piece) : Type 0 where
   pub pairs : List Pair
   pub balance : Balance A B pairs
 
--- some non-zero d has d·a ≤ d·b for all a, b
-pub record Supported (d : Vec3) (A B : Piece) : Type 0 where
-  pub nonzero : d ≡ origin → ⊥
-  pub above : NotAbove d A B
+-- d·a < d·b for at least one pair (a, b)
+pub record SomeBelow (d : Vec3) (A B : Piece) : Type 0 where
+  pub first : ℕ
+  pub second : ℕ
+  pub of-first : first < cornerCount A
+  pub of-second : second < cornerCount B
+  pub less : dot d (cornerAt A first) <ℤ dot d (cornerAt B second)
 
--- "touching: meeting, and some non-zero d has d·a ≤ d·b for all a, b."
+-- a direction of touching. It is not zero, as 01 asks: along zero no pair is parted (Exclusion, supported-nonzero), so that is not asked again
+pub record Supported (d : Vec3) (A B : Piece) : Type 0 where
+  pub above : NotAbove d A B
+  pub parted : SomeBelow d A B
+
+-- Document 01: "touching: meeting, and some non-zero d has d·a ≤ d·b for all a, b."
+-- W5 amends it: "meeting pieces are touching exactly when some direction d has d·a ≤ d·b for all corners and d·a < d·b for at least one pair; else penetrating."
+-- So sheets that lie over each other in one plane are penetrating, and sheets that share an edge are touching.
 pub record Touching (A B : Piece) : Type 0 where
   pub meeting : Meeting A B
   pub direction : Vec3
   pub supported : Supported direction A B
 
--- "penetrating: meeting and not touching."
+-- "penetrating: meeting and not touching"; W5: "else penetrating"
 pub record Penetrating (A B : Piece) : Type 0 where
   pub meeting : Meeting A B
   pub free : (d : Vec3) → Supported d A B → ⊥

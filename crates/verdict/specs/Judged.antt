@@ -1,5 +1,5 @@
 -- From the ends of the two walks to the verdict and what it carries.
--- Strict walk: separate, or a meeting; where that is flat, touching; else the weak walk: touching, or penetrating.
+-- Strict walk: separate, or a meeting; then the weak walk: touching, or penetrating. Both walk the thick set where the difference is flat.
 use mathlib.Core.Path.{_≡_, refl, sym, ap, _∙_, subst}
 use mathlib.Core.List.{List, [], _∷_}
 use mathlib.Core.Bool.{Bool, true, false}
@@ -26,7 +26,7 @@ use Rattle.verdict_portal.specs.declared.Three.{Three}
 use Rattle.verdict_portal.specs.Portal.{ZeroSum, depth, cramer}
 use Rattle.verdict_portal.specs.Sizes.{bigK, posK, front-under, start, start-flipped, start-shifted, plain, plain-nn}
 use Rattle.verdict_portal.specs.Round.{Setting, PortalHeld, Met}
-use Rattle.verdict_portal.specs.Exits.{sum3, w1, w2, wall-some, e1}
+use Rattle.verdict_portal.specs.Exits.{sum3, w1, w2, e1}
 use Rattle.verdict_portal.specs.Flat.{Drops, f4}
 use Rattle.verdict_walk.specs.declared.support.Difference.{Difference}
 use Rattle.verdict_walk.specs.declared.path.Portal.{Portal}
@@ -34,12 +34,12 @@ use Rattle.verdict_walk.specs.declared.path.Ended.{Ended}
 use Rattle.verdict_frame.specs.declared.frame.Frame.{Frame}
 use Rattle.verdict_walk.specs.declared.gather.Gathered.{Gathered}
 use Rattle.verdict_walk.specs.NoPairs.{noPair, noPairs}
-use Rattle.verdict_walk.specs.Points.{Spread, Tagged}
-use Rattle.verdict_walk.specs.PointLaws.{spread-of, below-of, not-above-of, walled-by}
+use Rattle.verdict_walk.specs.Points.{Tagged}
+use Rattle.verdict_walk.specs.PointLaws.{spread-of, below-of, supported-of}
 use Rattle.verdict_walk.specs.Ends.{Ground, Begun, Walked, Corners, Near}
 use Rattle.verdict_walk.specs.EndLaws.{point-upto}
 use Rattle.verdict_frame.specs.Frames.{Framed, Dropping, framePlaces, FirstPortal}
-use Rattle.verdict_frame.specs.FrameLaws.{origin-upto}
+use Rattle.verdict_frame.specs.FrameLaws.{origin-upto, walled-of}
 use Rattle.verdict_walk.specs.Gather.{baseOf, Gather, Weighed}
 use Rattle.verdict_walk.specs.GatherLaws.{weight-within, minus-within, none-at, gather-none, gather-more, count-grows, FourWeigh, four-weigh}
 use Rattle.verdict.specs.declared.Answer.{Answer}
@@ -297,13 +297,13 @@ carries-penetrating {g} h w = record {
   rest = w .rest;
 }
 
--- ---- E1: where four points weigh something, and the difference is nowhere flat
-pub penetrating-at-once : {A B : Piece} {f : Frame} {e : Ended} {r : Gathered} (k : Framed A B f) → f .solid ≡ true → Walked A B (f .widths) origin (framePlaces f) e → e .met ≡ true → Weighed e r
+-- ---- E1: where four points weigh something
+pub penetrating-at-once : {A B : Piece} {f : Frame} {e : Ended} {r : Gathered} (k : Framed A B f) → Walked A B (f .widths) origin (framePlaces f) e → e .met ≡ true → Weighed e r
     → r .count ≡ 4 → (d : Vec3) → Supported d A B → ⊥
-penetrating-at-once {A} {B} {f} {e} k solid w t h n d s =
-    e1 (plainly (w .last)) (plainly (w .begun .ofa)) (plainly (w .begun .ofb)) (plainly (w .begun .ofc)) (plain a b c (f .a .at) (f .b .at) (f .c .at) (w .begun .held .inv) .hp)
+penetrating-at-once {A} {B} {f} {e} k w t h n d s =
+    e1 (spread-of (w .last)) (spread-of (w .begun .ofa)) (spread-of (w .begun .ofb)) (spread-of (w .begun .ofc)) (plain a b c (f .a .at) (f .b .at) (f .c .at) (w .begun .held .inv) .hp)
     (above-zero (plain-nn p b c (w .met t .w1)) (four .second)) (above-zero (plain-nn a p c (w .met t .w2)) (four .third)) (above-zero (plain-nn a b p (w .met t .w3)) (four .fourth))
-    (cramer a b c p) (λ z. four .first (ap (λ u. pos 0 -ℤ u) z)) d (record { flat = walled-by d (s .above); some = s .nonzero })
+    (cramer a b c p) (λ z. four .first (ap (λ u. pos 0 -ℤ u) z)) _ (walled-of (k .dropping) s)
   where
     p : Vec3
     p = e .last .at
@@ -320,32 +320,22 @@ penetrating-at-once {A} {B} {f} {e} k solid w t h n d s =
     four : FourWeigh e
     four = four-weigh h n
 
-    plainly : {y : Difference} → Tagged A B (f .widths) y → Spread A B origin (y .at)
-    plainly {y} m = subst (λ g. Spread A B g (y .at)) (k .thin solid) (spread-of m)
-
--- ---- the weak walk's ends, where the difference is nowhere flat
-module _ {A B : Piece} {f : Frame} {q : Vec3} {v : Three} {e : Ended} (pa : Placed A) (pb : Placed B) (k : Framed A B f)
-    (eq : q ≡ sum3 (f .a .at) (f .b .at) (f .c .at)) (ev : v ≡ framePlaces f) (solid : f .solid ≡ true) (w : Walked A B (f .widths) q v e) where
-  weak : Walked A B origin (sum3 (f .a .at) (f .b .at) (f .c .at)) (framePlaces f) e
-  weak =
-      subst (λ g. Walked A B g (sum3 (f .a .at) (f .b .at) (f .c .at)) (framePlaces f) e) (k .thin solid)
-      (subst (λ u. Walked A B (f .widths) u (framePlaces f) e) eq (subst (λ u. Walked A B (f .widths) q u e) ev w))
-
-  with-no-box : {p : Difference} → Tagged A B (f .widths) p → Spread A B origin (p .at)
-  with-no-box {p} t = subst (λ g. Spread A B g (p .at)) (k .thin solid) (spread-of t)
+-- ---- the weak walk's ends
+module _ {A B : Piece} {f : Frame} {q : Vec3} {v : Three} {e : Ended} (k : Framed A B f)
+    (eq : q ≡ sum3 (f .a .at) (f .b .at) (f .c .at)) (ev : v ≡ framePlaces f) (w : Walked A B (f .widths) q v e) where
+  weak : Walked A B (f .widths) (sum3 (f .a .at) (f .b .at) (f .c .at)) (framePlaces f) e
+  weak = subst (λ u. Walked A B (f .widths) u (framePlaces f) e) eq (subst (λ u. Walked A B (f .widths) q u e) ev w)
 
   pub touching-by : e .met ≡ false → Supported (e .normal) A B
   touching-by t =
-      let l = w1 (e .normal) (f .a .at) (f .b .at) (f .c .at) (with-no-box (k .ofa)) (with-no-box (k .ofb)) (with-no-box (k .ofc))
+      supported-of (w1 (e .normal) (f .a .at) (f .b .at) (f .c .at) (spread-of (k .ofa)) (spread-of (k .ofb)) (spread-of (k .ofc))
       (subst (λ n. Under bigK (dot n (sum3 (f .a .at) (f .b .at) (f .c .at)))) (sym (weak .normal-is))
-      (front-under (weak .begun .setting .inq) (weak .begun .held .ina) (weak .begun .held .inb) (weak .begun .held .inc))) (weak .apart t) in
-      record { nonzero = wall-some l; above = not-above-of (e .normal) (l .flat) }
+      (front-under (weak .begun .setting .inq) (weak .begun .held .ina) (weak .begun .held .inb) (weak .begun .held .inc))) (weak .apart t))
 
   pub penetrating-by : e .met ≡ true → (d : Vec3) → Supported d A B → ⊥
   penetrating-by t d s =
-      w2 (f .a .at) (f .b .at) (f .c .at) (with-no-box (k .ofa)) (with-no-box (k .ofb)) (with-no-box (k .ofc)) (k .free) (spread-of (weak .last)) (spread-of (weak .begun .ofa))
-      (spread-of (weak .begun .ofb)) (spread-of (weak .begun .ofc)) (weak .met t) d
-      (record { flat = walled-by d (s .above); some = s .nonzero })
+      w2 (f .a .at) (f .b .at) (f .c .at) (spread-of (k .ofa)) (spread-of (k .ofb)) (spread-of (k .ofc)) (k .free) (spread-of (weak .last)) (spread-of (weak .begun .ofa))
+      (spread-of (weak .begun .ofb)) (spread-of (weak .begun .ofc)) (weak .met t) _ (walled-of (k .dropping) s)
 
 -- ---- what the functions between are asked with
 pub record MeetingAt (A B : Piece) (f : Frame) (e : Ended) : Type 0 where

@@ -63,7 +63,7 @@ fn meeting_with(verdict: u8, direction: Vec3, k: Gathered) -> Answer
     }
 }
 
-// The verdict of two pieces that meet at e, whose difference has the frame f.
+// The verdict of two pieces that meet at e, whose difference has the frame f: the weak walk decides.
 // Where four points weigh something the origin is inside of them, and no second walk is made.
 fn meeting_verdict(f: Frame, e: Ended, first: &[i32], second: &[i32]) -> Answer
     requires { ⌜ Placed (now first) × Placed (now second) ⌝ }
@@ -71,25 +71,20 @@ fn meeting_verdict(f: Frame, e: Ended, first: &[i32], second: &[i32]) -> Answer
     ensures { λ r. ⌜ (r .number ≡ 0) × Carries (now (first .entry)) (now (second .entry)) r ⌝ }
 {
     let k = gathered_of(e);
-    let solid = f.solid;
-    if solid {
-        let count = k.count;
-        if count == 4 {
-            return meeting_with(limits::PENETRATING, no_direction(), k);
-        }
-        let v = frame_places(f);
-        let t = e.portal;
-        let g = f.widths;
-        let w = walk(shift_of(v), v, t, g, first, second);
-        let inside = w.met;
-        if inside {
-            return meeting_with(limits::PENETRATING, no_direction(), k);
-        }
-        let n = w.normal;
-        return meeting_with(limits::TOUCHING, n, k);
+    let count = k.count;
+    if count == 4 {
+        return meeting_with(limits::PENETRATING, no_direction(), k);
     }
-    let d = f.flat;
-    meeting_with(limits::TOUCHING, d, k)
+    let v = frame_places(f);
+    let t = e.portal;
+    let g = f.widths;
+    let w = walk(shift_of(v), v, t, g, first, second);
+    let inside = w.met;
+    if inside {
+        return meeting_with(limits::PENETRATING, no_direction(), k);
+    }
+    let n = w.normal;
+    meeting_with(limits::TOUCHING, n, k)
 }
 
 // The verdict of two lists of placed corners, with its witnesses.

@@ -10,14 +10,14 @@ use lib.Dec.{T, leb, leb→le, eqb}
 use mir.Syntax.{w64}
 use mir.Val.{ofZ}
 use lib.IntN.{ℤ, pos, negsuc, _+ℤ_, _-ℤ_, _*ℤ_}
-use lib.Signed.{clashℤ, ltZ}
+use lib.Signed.{_≤ℤ_, _<ℤ_, clashℤ, ltZ}
 use borrow.Author.Tests.{lt-ltb, le-ltb, eqb-true, eqb-false}
 use Rattle.ints.specs.Quote.{sides, by-ring}
-use Rattle.ints.specs.Order.{le-comb, nn-of-le, le-of-eq, eq-comb, z-diff, z-add, lt-or-ge, nn-pos}
+use Rattle.ints.specs.Order.{le-comb, lt-comb, nn-of-le, pos-of-lt, nn-mul, pos-mul, lt→≤ℤ, eq-comb, z-diff, z-add, lt-or-ge, nn-pos}
+use Rattle.ints.specs.Sign.{lt-other}
 use Rattle.ints.specs.Bounds.{Within, known, within, natAbs-add, natAbs-neg}
 use Rattle.limits.specs.Decides.{Decides}
 use Rattle.limits.specs.DecidesLaws.{holds, fails}
-use Rattle.limits.specs.Limits.{directionReach}
 use Rattle.space.specs.declared.Vec3.{Vec3}
 use Rattle.space.specs.Vectors.{dot, cross, minus, plus, scale, det, env1, origin, opposite, vec-eq}
 use Rattle.space.specs.Ranges.{Upto, normalReach, upto-le}
@@ -25,13 +25,14 @@ use Rattle.space.specs.Verdicts.{Piece, cornerCount, cornerAt, Supported}
 use Rattle.space.specs.Lists.{Placed}
 use Rattle.verdict_portal.specs.declared.Three.{Three}
 use Rattle.verdict_portal.specs.Flat.{had, vec, ones, Signs, unit, nextAxis, coordinate, turnedRound, axis, had-plus}
-use Rattle.verdict_portal.specs.Flat.{f2-plane, f2-line, times-other, Drops, planeRow, drops-plane, drops-line, f5-line, f5-some}
+use Rattle.verdict_portal.specs.Flat.{f2-plane, f2-line, times-other, Drops, planeRow, drops-plane, drops-line, lifted, lifted-dot, square-pos}
+use Rattle.verdict_portal.specs.Exits.{Walled}
 use Rattle.verdict_portal.specs.Portal.{det-rot}
 use Rattle.verdict_walk.specs.declared.support.Difference.{Difference}
 use Rattle.verdict_walk.specs.declared.path.Portal.{Portal}
 use Rattle.verdict_frame.specs.declared.frame.Frame.{Frame}
 use Rattle.verdict_frame.specs.declared.frame.Found.{Found}
-use Rattle.verdict_walk.specs.Points.{Tagged, Box}
+use Rattle.verdict_walk.specs.Points.{Spread, Tagged, Box}
 use Rattle.verdict_walk.specs.PointLaws.{ones-signs, some-corner, plain-at, corner-upto}
 use Rattle.verdict_portal.specs.Rounds.{zero-bits}
 use Rattle.verdict_frame.specs.Frames.{differenceAt, Level, Rows, pickLeft, pickRight, leftAt, rightAt, scanned, AllLevel, Sought, ScannedAt, Dropping, Framed, thickOf}
@@ -151,17 +152,41 @@ two-box zero = bit-box 1 1 0 (small 1 tt) (small 1 tt) (small 0 tt)
 two-box (suc zero) = bit-box 0 1 1 (small 0 tt) (small 1 tt) (small 1 tt)
 two-box (suc (suc j)) = bit-box 1 0 1 (small 1 tt) (small 0 tt) (small 1 tt)
 
--- a direction along which every difference is 0
-level-supported : {A B : Piece} {d : Vec3} → (d ≡ origin → ⊥) → ((i j : ℕ) → i < cornerCount A → j < cornerCount B → dot d (minus (cornerAt A i) (cornerAt B j)) ≡ pos 0) → Supported d A B
-level-supported {A} {B} {d} f h = record {
-  nonzero = f;
-  above = record { all = λ i j hi hj. le-comb (nn-of-le (le-of-eq (h i j hi hj))) (by-ring (env1 d (env1 (cornerAt A i) (env1 (cornerAt B j) []))) (search sides depth 40) refl) };
+-- ---- W5: a direction of touching lifts to one that walls the thick set
+pub walled-of : {A B : Piece} {g d : Vec3} (w : Dropping A B g) → Supported d A B → Walled (Spread A B g) (lifted (w .k) (w .r1) (w .r2) (w .r3) d)
+walled-of {A} {B} {g} {d} w s = record {
+  flat = λ y m. subst (λ z. z ≤ℤ pos 0) (sym (along m))
+      (low (cornerAt A (m .first)) (cornerAt B (m .second)) (s .above .all (m .first) (m .second) (m .of-first) (m .of-second)));
+  some = other;
 }
+  where
+    square : pos 0 <ℤ (w .k *ℤ w .k)
+    square = square-pos (w .k) (w .nonzero)
 
-coordinate-origin : (j : ℕ) {v : Vec3} → (coordinate j v ≡ pos 0 → ⊥) → v ≡ origin → ⊥
-coordinate-origin zero f e = f (ap (λ w. w .x) e)
-coordinate-origin (suc zero) f e = f (ap (λ w. w .y) e)
-coordinate-origin (suc (suc j)) f e = f (ap (λ w. w .z) e)
+    along : {y : Vec3} (m : Spread A B g y) → dot (lifted (w .k) (w .r1) (w .r2) (w .r3) d) y ≡ w .k *ℤ w .k *ℤ dot d (minus (cornerAt A (m .first)) (cornerAt B (m .second)))
+    along m = ap (dot (lifted (w .k) (w .r1) (w .r2) (w .r3) d)) (m .is) ∙ lifted-dot (w .drop (m .first) (m .second) (m .of-first) (m .of-second) (m .signs) (m .are)) d
+
+    falls : (k : ℤ) (a b : Vec3) → pos 0 -ℤ k *ℤ k *ℤ dot d (minus a b) ≡ k *ℤ k *ℤ (dot d b -ℤ dot d a)
+    falls k a b = by-ring (k ∷ env1 d (env1 a (env1 b []))) (search sides depth 40) refl
+
+    low : (a b : Vec3) → dot d a ≤ℤ dot d b → (w .k *ℤ w .k *ℤ dot d (minus a b)) ≤ℤ pos 0
+    low a b h = le-comb (nn-mul (lt→≤ℤ square) (nn-of-le h)) (falls (w .k) a b)
+
+    less : (a b : Vec3) → dot d a <ℤ dot d b → (w .k *ℤ w .k *ℤ dot d (minus a b)) <ℤ pos 0
+    less a b h = lt-comb (pos-mul square (pos-of-lt h)) (falls (w .k) a b)
+
+    -- the parted pair, with the box's first corner
+    there : Vec3
+    there = plus (minus (cornerAt A (s .parted .first)) (cornerAt B (s .parted .second))) (had ones g)
+
+    here : Spread A B g there
+    here = record { first = s .parted .first; second = s .parted .second; of-first = s .parted .of-first; of-second = s .parted .of-second; signs = ones; are = ones-signs; is = refl }
+
+    zero : (v : Vec3) → dot origin v ≡ pos 0
+    zero v = by-ring (env1 v []) (search sides depth 9) refl
+
+    other : lifted (w .k) (w .r1) (w .r2) (w .r3) d ≡ origin → ⊥
+    other e = lt-other (less (cornerAt A (s .parted .first)) (cornerAt B (s .parted .second)) (s .parted .less)) (sym (along here) ∙ ap (λ v. dot v there) e ∙ zero there)
 
 dropping-solid : (A B : Piece) → Dropping A B origin
 dropping-solid A B = record {
@@ -196,14 +221,11 @@ framed-solid {A} {B} ta tb tc f = record {
   free = f;
   box = bit-box 0 0 0 (small 0 tt) (small 0 tt) (small 0 tt);
   dropping = dropping-solid A B;
-  thin = λ _. refl;
-  wall = λ e. absurd (subst T e tt);
-  reach = origin-upto directionReach;
 }
 
-pub framed-plane : {A B : Piece} {a b : Difference} {n : Vec3} (j : ℕ) → Tagged A B origin a → Tagged A B origin b → n ≡ cross (a .at) (b .at) → Upto directionReach n → (coordinate j n ≡ pos 0 → ⊥)
-    → AllLevel (record { a = n; b = n; c = n }) A B → Framed A B (planeFrame a b n j)
-framed-plane {A} {B} {a} {b} {n} j ta tb en u f h = record {
+pub framed-plane : {A B : Piece} {a b : Difference} {n : Vec3} (j : ℕ) → Tagged A B origin a → Tagged A B origin b → n ≡ cross (a .at) (b .at) → (coordinate j n ≡ pos 0 → ⊥)
+    → AllLevel (record { a = n; b = n; c = n }) A B → Framed A B (planeFrame a b j)
+framed-plane {A} {B} {a} {b} {n} j ta tb en f h = record {
   ofa = thick-tagged ta ones ones-signs (ones-had (unit j));
   ofb = thick-tagged tb ones ones-signs (ones-had (unit j));
   ofc = thick-tagged ta downs downs-signs (downs-had (unit j));
@@ -220,9 +242,6 @@ framed-plane {A} {B} {a} {b} {n} j ta tb en u f h = record {
         (λ v. Drops (dot n (unit j)) (planeRow n (unit j) 0) (planeRow n (unit j) 1) (planeRow n (unit j) 2) (plus (minus (cornerAt A i) (cornerAt B l)) v) (minus (cornerAt A i) (cornerAt B l)))
         (sym (axis j .spread s)) (drops-plane n (unit j) (minus (cornerAt A i) (cornerAt B l)) (coordinate j s) (h .all i l hi hl .one));
   };
-  thin = λ e. absurd (subst T (sym e) tt);
-  wall = λ _. level-supported (coordinate-origin j f) (λ i l hi hl. h .all i l hi hl .one);
-  reach = u;
 }
   where
     other : dot n (unit j) ≡ pos 0 → ⊥
@@ -238,8 +257,8 @@ not-along c y f e =
       three = by-ring (env1 c (env1 y [])) (search sides depth 9) refl ∙ ap (λ v. pos 0 -ℤ v .z) e;
     })
 
-pub framed-line : {A B : Piece} {a : Difference} (j : ℕ) → Tagged A B origin a → Upto 262144 (a .at) → (coordinate j (a .at) ≡ pos 0 → ⊥) → AllLevel (lineRows (a .at)) A B → Framed A B (lineFrame a j)
-framed-line {A} {B} {a} j ta u nz h = record {
+pub framed-line : {A B : Piece} {a : Difference} (j : ℕ) → Tagged A B origin a → (coordinate j (a .at) ≡ pos 0 → ⊥) → AllLevel (lineRows (a .at)) A B → Framed A B (lineFrame a j)
+framed-line {A} {B} {a} j ta nz h = record {
   ofa = thick-tagged ta ones ones-signs (ones-had (plus e f));
   ofb = thick-tagged ta (turnedRound (nextAxis j)) (axis (nextAxis j) .signs)
       (minus-plus (e) (f) ∙ sym (had-plus (turnedRound (nextAxis j)) e f ∙ ap₂ plus (axis (nextAxis j) .own) (axis (nextAxis j) .other)));
@@ -260,9 +279,6 @@ framed-line {A} {B} {a} j ta u nz h = record {
         (sym (had-plus s e f ∙ ap₂ plus (axis (nextAxis j) .spread s) (axis (nextAxis (nextAxis j)) .spread s)))
         (drops-line (a .at) e f (minus (cornerAt A i) (cornerAt B l)) (coordinate (nextAxis j) s) (coordinate (nextAxis (nextAxis j)) s) (y .one) (y .two) (y .three));
   };
-  thin = λ k. absurd (subst T (sym k) tt);
-  wall = λ _. level-supported (f5-some (a .at) e f other) (λ i l hi hl. let y = h .all i l hi hl in f5-line (a .at) e (minus (cornerAt A i) (cornerAt B l)) (y .one) (y .two) (y .three));
-  reach = across (a .at) e u (unit-box (nextAxis j) .most);
 }
   where
     e : Vec3
@@ -285,9 +301,6 @@ framed-line {A} {B} {a} j ta u nz h = record {
       where
         r : (u v : ℤ) → u -ℤ v ≡ u +ℤ (pos 0 -ℤ v)
         r u v = by-ring (u ∷ v ∷ []) (search sides depth 9) refl
-
-    across : (c e : Vec3) → Upto 262144 c → Upto 4096 e → Upto directionReach (cross c e)
-    across c e u v = record { ux = within (search known depth 9) tt; uy = within (search known depth 9) tt; uz = within (search known depth 9) tt }
 
 pub level-origin : (y : Vec3) → Level unitRows y → y ≡ origin
 level-origin y l = vec-eq (sym (r0 y) ∙ l .one) (sym (r1 y) ∙ l .two) (sym (r2 y) ∙ l .three)
@@ -319,9 +332,6 @@ framed-point {A} {B} pa pb h = record {
     nonzero = one;
     drop = λ i j hi hj s hs. none (plus (minus (cornerAt A i) (cornerAt B j)) (had s ones)) (minus (cornerAt A i) (cornerAt B j)) (level-origin _ (h .all i j hi hj));
   };
-  thin = λ k. absurd (subst T (sym k) tt);
-  wall = λ _. level-supported (λ k. one (ap (λ v. v .x) k)) (λ i j hi hj. h .all i j hi hj .one);
-  reach = record { ux = within (search known depth 9) tt; uy = within (search known depth 9) tt; uz = within (search known depth 9) tt };
 }
   where
     one : pos 1 ≡ pos 0 → ⊥
@@ -365,9 +375,9 @@ zero-decided {z} {C} w f g = go (eqb (ofZ w64 z) 0) refl
     go true e = holds refl (f (zero-bits w (eqb-true (ofZ w64 z) 0 e)))
     go false e = fails refl (λ k. eqb-false (ofZ w64 z) 0 e (ap (ofZ w64) (g k)))
 
-pub frame-eq : {s : Bool} {w w′ d d′ : Vec3} {a a′ b b′ c c′ : Difference} → w ≡ w′ → a ≡ a′ → b ≡ b′ → c ≡ c′ → d ≡ d′
-    → _≡_ {A = Frame} (record { solid = s; widths = w; a = a; b = b; c = c; flat = d }) (record { solid = s; widths = w′; a = a′; b = b′; c = c′; flat = d′ })
-frame-eq {s} ew ea eb ec ed = λ i. record { solid = s; widths = ew i; a = ea i; b = eb i; c = ec i; flat = ed i }
+pub frame-eq : {w w′ : Vec3} {a a′ b b′ c c′ : Difference} → w ≡ w′ → a ≡ a′ → b ≡ b′ → c ≡ c′
+    → _≡_ {A = Frame} (record { widths = w; a = a; b = b; c = c }) (record { widths = w′; a = a′; b = b′; c = c′ })
+frame-eq ew ea eb ec = λ i. record { widths = ew i; a = ea i; b = eb i; c = ec i }
 
 pub some-of : {A B : Piece} {rows : Three} {r : Found} → rows ≡ unitRows → Sought rows A B r → r .found ≡ true → Some A B (r .point)
 some-of {r} er s e = record { tagged = s .tagged e; other = not-origin (r .point .at) (λ l. s .apart e (subst (λ w. Level w (r .point .at)) (sym er) l)) }
@@ -391,13 +401,13 @@ framed-at-a-point {A} {B} pa pb er s e ef = subst (Framed A B) (sym ef) (framed-
 
 pub framed-on-a-line : {A B : Piece} {a : Difference} {rows : Three} {r : Found} {f : Frame} → Placed A → Placed B → Some A B a → rows ≡ lineRows (a .at) → Sought rows A B r → r .found ≡ false
     → OnLine a f → Framed A B f
-framed-on-a-line {A} {B} pa pb h er s e l = subst (Framed A B) (sym (l .is)) (framed-line (l .axis-is) (h .tagged) (tagged-upto pa pb (h .tagged)) (l .of .other (h .other)) (level-is er (s .none e)))
+framed-on-a-line {A} {B} pa pb h er s e l = subst (Framed A B) (sym (l .is)) (framed-line (l .axis-is) (h .tagged) (l .of .other (h .other)) (level-is er (s .none e)))
 
 pub framed-in-a-plane : {A B : Piece} {a b : Difference} {n : Vec3} {rows : Three} {r : Found} {f : Frame} → Placed A → Placed B → Wide A B a b → n ≡ cross (a .at) (b .at) → rows ≡ planeRows n
     → Sought rows A B r → r .found ≡ false → InPlane a b n f → Framed A B f
 framed-in-a-plane {A} {B} pa pb h en er s e l =
     subst (Framed A B) (sym (l .is))
-    (framed-plane (l .axis-is) (h .tagged-a) (h .tagged-b) en (upto-le tt (cross-near pa pb h en)) (l .of .other (λ z. h .other (sym en ∙ z))) (level-is er (s .none e)))
+    (framed-plane (l .axis-is) (h .tagged-a) (h .tagged-b) en (l .of .other (λ z. h .other (sym en ∙ z))) (level-is er (s .none e)))
 
 pub framed-solid-of : {A B : Piece} {a b : Difference} {n : Vec3} {rows : Three} {r : Found} → Wide A B a b → n ≡ cross (a .at) (b .at) → rows ≡ planeRows n → Sought rows A B r → r .found ≡ true
     → Framed A B (solidFrame a b (r .point))

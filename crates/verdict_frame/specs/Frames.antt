@@ -1,5 +1,5 @@
 -- The frame of a difference: three points of it that are independent, with a box where the difference is flat.
--- r = 3: nowhere flat, no box; r = 2: in a plane; r = 1: on a line; r = 0: at the origin. F1 to F5 of the walk's proof.
+-- r = 3: nowhere flat, no box; r = 2: in a plane; r = 1: on a line; r = 0: at the origin. F1 to F4 of the walk's proof.
 use mathlib.Core.Path.{_≡_}
 use mathlib.Core.Bool.{Bool, true, false}
 use mathlib.Core.Logic.{_⊎_}
@@ -7,11 +7,10 @@ use Prim.Native.Nat.{ℕ, _-_, _<_}
 use lib.Dec.{ltb}
 use lib.IntN.{ℤ, pos, negsuc}
 use lib.Signed.{_≤ℤ_, _<ℤ_}
-use Rattle.limits.specs.Limits.{directionReach}
 use Rattle.space.specs.declared.Vec3.{Vec3}
 use Rattle.space.specs.Vectors.{dot, cross, minus, plus, det, origin, opposite}
 use Rattle.space.specs.Ranges.{Upto, pointReach, normalReach}
-use Rattle.space.specs.Verdicts.{Piece, cornerCount, cornerAt, Supported}
+use Rattle.space.specs.Verdicts.{Piece, cornerCount, cornerAt}
 use Rattle.verdict_portal.specs.declared.Three.{Three}
 use Rattle.verdict_portal.specs.Flat.{had, vec, ones, Signs, unit, nextAxis, coordinate, axis, Drops, lineRow}
 use Rattle.verdict_walk.specs.declared.support.Difference.{Difference}
@@ -87,9 +86,6 @@ pub record Framed (A B : Piece) (r : Frame) : Type 0 where
   pub free : det (r .a .at) (r .b .at) (r .c .at) ≡ pos 0 → ⊥
   pub box : Box (r .widths)
   pub dropping : Dropping A B (r .widths)
-  pub thin : r .solid ≡ true → r .widths ≡ origin
-  pub wall : r .solid ≡ false → Supported (r .flat) A B
-  pub reach : Upto directionReach (r .flat)
 
 -- ---- what is thick
 abbrev pub thickOf : Difference → Vec3 → Difference
@@ -97,11 +93,11 @@ thickOf p w = record { at = plus (p .at) w; first = p .first; second = p .second
 
 -- ---- r = 3: nowhere flat
 abbrev pub solidFrame : Difference → Difference → Difference → Frame
-solidFrame a b c = record { solid = true; widths = origin; a = a; b = b; c = c; flat = origin }
+solidFrame a b c = record { widths = origin; a = a; b = b; c = c }
 
 -- ---- r = 2: in the plane of n
-abbrev pub planeFrame : Difference → Difference → Vec3 → ℕ → Frame
-planeFrame a b n j = record { solid = false; widths = unit j; a = thickOf a (unit j); b = thickOf b (unit j); c = thickOf a (opposite (unit j)); flat = n }
+abbrev pub planeFrame : Difference → Difference → ℕ → Frame
+planeFrame a b j = record { widths = unit j; a = thickOf a (unit j); b = thickOf b (unit j); c = thickOf a (opposite (unit j)) }
 
 -- the axis along which a vector that is not the origin is not 0
 pub record AxisOf (v : Vec3) (r : ℕ) : Type 0 where
@@ -110,12 +106,10 @@ pub record AxisOf (v : Vec3) (r : ℕ) : Type 0 where
 -- ---- r = 1: on the line of a, e and f the axes besides that of a coordinate of a that is not 0
 abbrev pub lineFrame : Difference → ℕ → Frame
 lineFrame a j = record {
-  solid = false;
   widths = plus (unit (nextAxis j)) (unit (nextAxis (nextAxis j)));
   a = thickOf a (plus (unit (nextAxis j)) (unit (nextAxis (nextAxis j))));
   b = thickOf a (minus (unit (nextAxis (nextAxis j))) (unit (nextAxis j)));
   c = thickOf a (minus (unit (nextAxis j)) (unit (nextAxis (nextAxis j))));
-  flat = cross (a .at) (unit (nextAxis j));
 }
 
 -- level with these is along c
@@ -125,12 +119,10 @@ lineRows c = record { a = lineRow c 0; b = lineRow c 1; c = lineRow c 2 }
 -- ---- r = 0: at the origin
 abbrev pub pointFrame : Frame
 pointFrame = record {
-  solid = false;
   widths = ones;
   a = record { at = vec (pos 1) (pos 1) (pos 1); first = 0; second = 0 };
   b = record { at = vec (negsuc 0) (pos 1) (pos 1); first = 0; second = 0 };
   c = record { at = vec (pos 1) (negsuc 0) (pos 1); first = 0; second = 0 };
-  flat = unit 0;
 }
 
 -- level with these is the origin
@@ -146,7 +138,7 @@ pub record OnLine (a : Difference) (r : Frame) : Type 0 where
 pub record InPlane (a b : Difference) (n : Vec3) (r : Frame) : Type 0 where
   pub axis-is : ℕ
   pub of : AxisOf n axis-is
-  pub is : r ≡ planeFrame a b n axis-is
+  pub is : r ≡ planeFrame a b axis-is
 
 -- ---- the three scans
 abbrev pub planeRows : Vec3 → Three

@@ -32,14 +32,12 @@ pub struct Found {
     pub point: Difference,
 }
 
-// Three independent points of the difference; where it is flat, a box that makes it thick, and a direction that it is level with.
+// Three independent points of the difference, and the half-widths of the box that makes it thick where it is flat.
 pub struct Frame {
-    pub solid: bool,
     pub widths: Vec3,
     pub a: Difference,
     pub b: Difference,
     pub c: Difference,
-    pub flat: Vec3,
 }
 
 // Corner i of the first list less corner j of the second.
@@ -199,14 +197,11 @@ fn at_a_point() -> Frame
         first: 0,
         second: 0,
     };
-    let flat = Vec3 { x: 1, y: 0, z: 0 };
     Frame {
-        solid: false,
         widths: u,
         a: a,
         b: b,
         c: c,
-        flat: flat,
     }
 }
 
@@ -221,12 +216,10 @@ fn on_a_line(a: Difference) -> Frame
     let f = unit(next_axis(j));
     let g = plus(e, f);
     Frame {
-        solid: false,
         widths: g,
         a: thick(a, g),
         b: thick(a, minus(f, e)),
         c: thick(a, minus(e, f)),
-        flat: cross(y, e),
     }
 }
 
@@ -237,12 +230,10 @@ fn in_a_plane(a: Difference, b: Difference, n: Vec3) -> Frame
 {
     let e = unit(axis_of(n));
     Frame {
-        solid: false,
         widths: e,
         a: thick(a, e),
         b: thick(b, e),
         c: thick(a, opposite(e)),
-        flat: n,
     }
 }
 
@@ -292,12 +283,10 @@ fn frame_in_space(a: Difference, b: Difference, first: &[i32], second: &[i32]) -
     if found {
         let c = s.point;
         return Frame {
-            solid: true,
             widths: Vec3 { x: 0, y: 0, z: 0 },
             a: a,
             b: b,
             c: c,
-            flat: Vec3 { x: 0, y: 0, z: 0 },
         };
     }
     in_a_plane(a, b, n)

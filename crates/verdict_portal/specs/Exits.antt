@@ -1,5 +1,6 @@
 -- The walk's two exits, over any set D of points. Strict: q is the origin. Weak: q = c1 + c2 + c3.
-use mathlib.Core.Path.{_≡_, refl, sym, ap, _∙_, subst}
+-- And the exit before the weak walk: where four points weigh something, no direction has all of D at or behind it.
+use mathlib.Core.Path.{_≡_, refl, sym, _∙_, subst}
 use mathlib.Core.List.{[], _∷_}
 use mathlib.Core.Logic.{_⊎_, inl, inr, ⊎-elim}
 use lib.IntN.{ℤ, pos, _+ℤ_, _-ℤ_, _*ℤ_}
@@ -9,7 +10,7 @@ use Rattle.ints.specs.Order.{le-or-lt, le-comb, lt-comb, nn-of-le, pos-of-lt, n
 use Rattle.space.specs.declared.Vec3.{Vec3}
 use Rattle.space.specs.Vectors.{dot, plus, det, env1, origin, vec-eq}
 use Rattle.verdict_portal.specs.Portal.{ZeroSum, zero-sum-dot, frame-zero}
-use Rattle.ints.specs.Sign.{Under, lex, lex-other, same-sym, l2, lt-other, gt-other}
+use Rattle.ints.specs.Sign.{Under, lex, lex-other, same-sym, l2, gt-other}
 use Rattle.verdict_portal.specs.Sizes.{bigK, posK, hat, hat-dot}
 use Rattle.verdict_portal.specs.Round.{Met}
 
@@ -76,10 +77,6 @@ w1 {D} n c1 c2 c3 m1 m2 m3 u b =
 
     none : pos 0 ≤ℤ dot n c1 → pos 0 ≤ℤ dot n c2 → pos 0 ≤ℤ dot n c3 → ⊥
     none h1 h2 h3 = clashℤ (b .all c1 m1) (nn-add (nn-mul (lt→≤ℤ posK) h1) (subst (λ z. pos 0 ≤ℤ z) (sym (sum3-dot n c1 c2 c3)) (nn-add (nn-add h1 h2) h3)))
-
--- a wall's direction is not the origin
-pub wall-some : {D : Vec3 → Type 0} {n : Vec3} → Wall D n → n ≡ origin → ⊥
-wall-some {n} w e = lt-other (w .some-less) (ap (λ d. dot d (w .some)) e ∙ by-ring (env1 (w .some) []) (search sides depth 9) refl)
 
 -- ---- W2: penetrating. No direction but the origin has all of D at or behind it
 pub record Walled (D : Vec3 → Type 0) (d : Vec3) : Type 0 where

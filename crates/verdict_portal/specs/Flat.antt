@@ -1,13 +1,14 @@
 -- Flat sets are made thick by a box along the axes that complete their span: the vectors of that, with no set in sight.
--- The determinants of the thick frames, how a thick point drops to its base, and what is perpendicular to a flat set (F2, F4, F5).
-use mathlib.Core.Path.{_≡_, refl, sym, ap, _∙_}
+-- The determinants of the thick frames, how a thick point drops to its base, and how a direction lifts (F2, F4, W5).
+use mathlib.Core.Path.{_≡_, refl, sym, _∙_, subst}
 use mathlib.Core.List.{[], _∷_}
 use mathlib.Core.Logic.{_⊎_, inl, inr, ⊎-elim}
 use Prim.Native.Nat.{ℕ, zero, suc}
 use lib.IntN.{ℤ, pos, negsuc, negℤ, _+ℤ_, _-ℤ_, _*ℤ_, *ℤ-zero}
 use Rattle.ints.specs.Laws.{*ℤ-distribl}
 use Rattle.ints.specs.Quote.{sides, by-ring}
-use Rattle.ints.specs.Order.{zero-product, eq-comb, z-diff, z-add}
+use lib.Signed.{_<ℤ_}
+use Rattle.ints.specs.Order.{zero-product, eq-comb, z-diff, z-add, trichotomy, pos-mul, <ℤ-neg}
 use Rattle.space.specs.declared.Vec3.{Vec3}
 use Rattle.space.specs.Vectors.{dot, cross, minus, plus, scale, det, env1, origin, opposite, vec-eq}
 use Rattle.verdict_portal.specs.Portal.{ZeroSum, zero-sum-dot}
@@ -153,9 +154,15 @@ drops-line c e f y t u hx hy hz = record {
   dz = eq-comb (z-add (z-diff (cross e f .y) hx) (z-diff (negℤ (cross e f .x)) hy)) (by-ring (t ∷ u ∷ env1 c (env1 e (env1 f (env1 y [])))) (search sides depth 40) refl);
 }
 
--- ---- F5: what is perpendicular to the line of c; that of a plane is its n
-pub f5-line : (c e y : Vec3) → dot (lineRow c 0) y ≡ pos 0 → dot (lineRow c 1) y ≡ pos 0 → dot (lineRow c 2) y ≡ pos 0 → dot (cross c e) y ≡ pos 0
-f5-line c e y hx hy hz = eq-comb (z-add (z-add (z-diff (e .x) hx) (z-diff (e .y) hy)) (z-diff (e .z) hz)) (by-ring (env1 c (env1 e (env1 y []))) (search sides depth 40) refl)
+-- ---- W5: a direction lifts. Along it a thick point is k² times as far as its base is along d
+abbrev pub lifted : ℤ → Vec3 → Vec3 → Vec3 → Vec3 → Vec3
+lifted k r1 r2 r3 d = scale k (plus (plus (scale (d .x) r1) (scale (d .y) r2)) (scale (d .z) r3))
 
-pub f5-some : (c e f : Vec3) → (det c e f ≡ pos 0 → ⊥) → cross c e ≡ origin → ⊥
-f5-some c e f g h = g (ap (λ v. dot v f) h ∙ by-ring (env1 f []) (search sides depth 9) refl)
+pub lifted-dot : {k : ℤ} {r1 r2 r3 y′ y : Vec3} → Drops k r1 r2 r3 y′ y → (d : Vec3) → dot (lifted k r1 r2 r3 d) y′ ≡ k *ℤ k *ℤ dot d y
+lifted-dot {k} {r1} {r2} {r3} {y′} {y} p d = eq-comb (z-add (z-add (z-diff (k *ℤ d .x) (p .dx)) (z-diff (k *ℤ d .y) (p .dy))) (z-diff (k *ℤ d .z) (p .dz)))
+    (by-ring (k ∷ env1 d (env1 r1 (env1 r2 (env1 r3 (env1 y′ (env1 y [])))))) (search sides depth 40) refl)
+
+pub square-pos : (k : ℤ) → (k ≡ pos 0 → ⊥) → pos 0 <ℤ (k *ℤ k)
+square-pos k f = ⊎-elim
+    (λ h. subst (λ z. pos 0 <ℤ z) (by-ring (k ∷ []) (search sides depth 9) refl) (pos-mul (<ℤ-neg h) (<ℤ-neg h)))
+    (⊎-elim (λ h. absurd (f h)) (λ h. pos-mul h h)) (trichotomy k (pos 0))

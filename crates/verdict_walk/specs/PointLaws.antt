@@ -9,16 +9,17 @@ use borrow.Author.Count.{below-more}
 use lib.IntN.{ℤ, pos, negsuc, _+ℤ_, _-ℤ_, _*ℤ_}
 use lib.Signed.{_≤ℤ_, _<ℤ_, clashℤ}
 use Rattle.ints.specs.Quote.{sides, by-ring}
-use Rattle.ints.specs.Order.{le-or-lt, le-comb, lt-comb, nn-of-le, pos-of-lt, nn-add, nn-mul, nn-pos, lt→≤ℤ, <ℤ-neg, le-of-eq, <ℤ-cancel, <ℤ-add, ≤ℤ-trans}
+use Rattle.ints.specs.Order.{le-or-lt, le-comb, lt-comb, nn-of-le, pos-of-lt, nn-add, nn-mul, nn-pos, lt→≤ℤ, <ℤ-neg, le-of-eq, <ℤ-cancel, ≤ℤ-cancel, <ℤ-add, ≤ℤ-trans}
 use Rattle.ints.specs.Bounds.{Within, known, within}
 use Rattle.limits.specs.Limits.{placedReach}
 use Rattle.space.specs.declared.Vec3.{Vec3}
-use Rattle.space.specs.Vectors.{dot, minus, plus, env1, origin, vec-eq}
+use Rattle.space.specs.Vectors.{dot, minus, plus, env1, origin, opposite, vec-eq}
 use Rattle.space.specs.Ranges.{Upto, pointReach, normalReach, upto-le}
-use Rattle.space.specs.Verdicts.{Piece, cornerCount, cornerAt, Below, NotAbove}
+use Rattle.space.specs.Verdicts.{Piece, cornerCount, cornerAt, Below, Supported}
 use Rattle.space.specs.Lists.{Placed}
 use Rattle.verdict_portal.specs.Flat.{had, vec, ones, Sign, Signs}
 use Rattle.verdict_portal.specs.Rounds.{dot-within}
+use Rattle.verdict_portal.specs.Exits.{Wall}
 use Rattle.verdict_walk.specs.declared.support.Difference.{Difference}
 use Rattle.verdict_walk.specs.Points.{Spread, Tagged, Box, Farthest, SignOf, SignsOf, Signed, Boxed, Supports}
 
@@ -143,22 +144,55 @@ spread-at i j hi hj s hs = record { first = i; second = j; of-first = hi; of-sec
 pub ones-signs : Signs ones
 ones-signs = record { one-x = inl refl; one-y = inl refl; one-z = inl refl }
 
-downs : Vec3
-downs = vec (negsuc 0) (negsuc 0) (negsuc 0)
+turned-sign : {s : ℤ} → Sign s → Sign (pos 0 -ℤ s)
+turned-sign (inl e) = inr (ap (λ z. pos 0 -ℤ z) e)
+turned-sign (inr e) = inl (ap (λ z. pos 0 -ℤ z) e)
 
--- F3: what is behind n with the box is behind it without: add the two signs
-pub below-of : {A B : Piece} (g n : Vec3) → ((y : Vec3) → Spread A B g y → dot n y <ℤ pos 0) → Below n A B
-unfolding downs
-below-of {A} {B} g n h = record {
-  all = λ i j hi hj. lt-comb
-      (pos-of-lt (<ℤ-cancel {a = dot n (minus (cornerAt A i) (cornerAt B j))} {b = pos 0} (pos 2) (record { lt = tt })
-      (subst (λ z. z <ℤ pos 0) (twice (cornerAt A i) (cornerAt B j))
-      (<ℤ-add (h _ (spread-at i j hi hj ones ones-signs)) (lt→≤ℤ (h _ (spread-at i j hi hj downs (record { one-x = inr refl; one-y = inr refl; one-z = inr refl }))))))))
-      (by-ring (env1 n (env1 (cornerAt A i) (env1 (cornerAt B j) []))) (search sides depth 40) refl);
-}
+turned-signs : {s : Vec3} → Signs s → Signs (opposite s)
+turned-signs h = record { one-x = turned-sign (h .one-x); one-y = turned-sign (h .one-y); one-z = turned-sign (h .one-z) }
+
+-- F3: two opposite corners of the box about one base come to twice the base, so what is said of both along n is said of it
+twice : (n a b s g : Vec3) → dot n (plus (minus a b) (had s g)) +ℤ dot n (plus (minus a b) (had (opposite s) g)) ≡ pos 2 *ℤ dot n (minus a b)
+twice n a b s g = by-ring (env1 n (env1 a (env1 b (env1 s (env1 g []))))) (search sides depth 40) refl
+
+base-less : (n a b s g : Vec3) → dot n (plus (minus a b) (had s g)) <ℤ pos 0 → dot n (plus (minus a b) (had (opposite s) g)) ≤ℤ pos 0 → dot n a <ℤ dot n b
+base-less n a b s g h k =
+    lt-comb (pos-of-lt (<ℤ-cancel {a = dot n (minus a b)} {b = pos 0} (pos 2) (record { lt = tt }) (subst (λ z. z <ℤ pos 0) (twice n a b s g) (<ℤ-add h k))))
+    (by-ring (env1 n (env1 a (env1 b []))) (search sides depth 40) refl)
+
+base-most : (n a b s g : Vec3) → dot n (plus (minus a b) (had s g)) ≤ℤ pos 0 → dot n (plus (minus a b) (had (opposite s) g)) ≤ℤ pos 0 → dot n a ≤ℤ dot n b
+base-most n a b s g h k =
+    le-comb (nn-of-le (≤ℤ-cancel {a = dot n (minus a b)} {b = pos 0} (pos 2) (record { lt = tt }) (subst (λ z. z ≤ℤ pos 0) (twice n a b s g) (sum h k))))
+    (by-ring (env1 n (env1 a (env1 b []))) (search sides depth 40) refl)
   where
-    twice : (a b : Vec3) → dot n (plus (minus a b) (had ones g)) +ℤ dot n (plus (minus a b) (had downs g)) ≡ pos 2 *ℤ dot n (minus a b)
-    twice a b = by-ring (env1 n (env1 a (env1 b (env1 g [])))) (search sides depth 40) refl
+    sum : {u v : ℤ} → u ≤ℤ pos 0 → v ≤ℤ pos 0 → (u +ℤ v) ≤ℤ pos 0
+    sum {u} {v} h k = le-comb (nn-add (nn-of-le h) (nn-of-le k)) (by-ring (u ∷ v ∷ []) (search sides depth 9) refl)
+
+-- all of the set behind n: separate
+pub below-of : {A B : Piece} (g n : Vec3) → ((y : Vec3) → Spread A B g y → dot n y <ℤ pos 0) → Below n A B
+below-of {A} {B} g n h = record {
+  all = λ i j hi hj. base-less n (cornerAt A i) (cornerAt B j) ones g (h _ (spread-at i j hi hj ones ones-signs))
+      (lt→≤ℤ (h _ (spread-at i j hi hj (opposite ones) (turned-signs ones-signs))));
+}
+
+-- a wall of the set is a direction of touching: the pair of the point behind it is parted
+pub supported-of : {A B : Piece} {g n : Vec3} → Wall (Spread A B g) n → Supported n A B
+supported-of {A} {B} {g} {n} w = record {
+  above = record {
+    all = λ i j hi hj. base-most n (cornerAt A i) (cornerAt B j) ones g (w .flat _ (spread-at i j hi hj ones ones-signs))
+        (w .flat _ (spread-at i j hi hj (opposite ones) (turned-signs ones-signs)));
+  };
+  parted =
+      let m = w .some-of in
+      record {
+        first = m .first;
+        second = m .second;
+        of-first = m .of-first;
+        of-second = m .of-second;
+        less = base-less n (cornerAt A (m .first)) (cornerAt B (m .second)) (m .signs) g (subst (λ v. dot n v <ℤ pos 0) (m .is) (w .some-less))
+            (w .flat _ (spread-at (m .first) (m .second) (m .of-first) (m .of-second) (opposite (m .signs)) (turned-signs (m .are))));
+      };
+}
 
 -- with no box: the plain differences
 pub plain-at : (a b s : Vec3) → plus (minus a b) (had s origin) ≡ minus a b
@@ -166,16 +200,6 @@ plain-at a b s = vec-eq (none (a .x -ℤ b .x) (s .x)) (none (a .y -ℤ b .y) (s
   where
     none : (u v : ℤ) → u +ℤ v *ℤ pos 0 ≡ u
     none u v = by-ring (u ∷ v ∷ []) (search sides depth 9) refl
-
-pub not-above-of : {A B : Piece} (n : Vec3) → ((y : Vec3) → Spread A B origin y → dot n y ≤ℤ pos 0) → NotAbove n A B
-not-above-of {A} {B} n h = record {
-  all = λ i j hi hj. le-comb (nn-of-le (subst (λ v. dot n v ≤ℤ pos 0) (plain-at (cornerAt A i) (cornerAt B j) ones) (h _ (spread-at i j hi hj ones ones-signs))))
-      (by-ring (env1 n (env1 (cornerAt A i) (env1 (cornerAt B j) []))) (search sides depth 40) refl);
-}
-
-pub walled-by : {A B : Piece} (d : Vec3) → NotAbove d A B → (y : Vec3) → Spread A B origin y → dot d y ≤ℤ pos 0
-walled-by {A} {B} d h y m = subst (λ v. dot d v ≤ℤ pos 0) (sym (m .is ∙ plain-at (cornerAt A (m .first)) (cornerAt B (m .second)) (m .signs)))
-    (le-comb (nn-of-le (h .all (m .first) (m .second) (m .of-first) (m .of-second))) (by-ring (env1 d (env1 (cornerAt A (m .first)) (env1 (cornerAt B (m .second)) []))) (search sides depth 40) refl))
 
 -- a list that fits has a corner
 pub some-corner : {s : Piece} → Placed s → 1 ≤ cornerCount s

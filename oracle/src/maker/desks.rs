@@ -1,5 +1,5 @@
-//! Long runs on crowded small desks: shapes of a few steps at offsets of a few steps, so that
-//! pieces touch, overlap and part all the time; now and then far ends, full hulls, a full desk.
+//! Long runs on crowded small desks: shapes of a few steps at offsets of a few steps, so that pieces
+//! touch, overlap and part all the time; now and then all flat, far ends, full hulls, a full desk.
 
 use super::dice::Dice;
 use super::script::Script;
@@ -13,6 +13,8 @@ struct Layout {
     unit: Number,
     spread: Number,
     most_places: usize,
+    /// Every shape is flat and lies in the plane z = 0, most often.
+    flat: bool,
 }
 
 fn layout(dice: &mut Dice) -> Layout {
@@ -31,11 +33,15 @@ fn layout(dice: &mut Dice) -> Layout {
         unit,
         spread,
         most_places,
+        flat: dice.once_in(4),
     }
 }
 
 fn offset(dice: &mut Dice, layout: &Layout) -> [Number; 3] {
-    [0; 3].map(|_: Number| {
+    [0, 1, 2].map(|axis: usize| {
+        if layout.flat && axis == 2 && !dice.once_in(10) {
+            return 0;
+        }
         let whole = layout.unit * dice.between(-layout.spread, layout.spread);
         let nudged = if dice.once_in(6) {
             whole + dice.pick(&[-1, 1])
@@ -47,12 +53,16 @@ fn offset(dice: &mut Dice, layout: &Layout) -> [Number; 3] {
 }
 
 fn shape(dice: &mut Dice, layout: &Layout) -> Vec<Point> {
-    match dice.below(12) {
+    let corners = match dice.below(12) {
         0 => block([0; 3], [layout.reach; 3]),
         1 => vec![[0; 3]],
         2 if dice.once_in(4) => ball(dice, layout.reach.max(20)),
         _ => any(dice, layout.reach),
+    };
+    if layout.flat {
+        return corners.into_iter().map(|[x, y, _]| [x, y, 0]).collect();
     }
+    corners
 }
 
 pub fn stretch(script: &mut Script, dice: &mut Dice) {
@@ -82,9 +92,12 @@ fn loaded(script: &Script) -> Vec<Number> {
     shapes.map(|shape| shape as Number).collect()
 }
 
-fn turn(dice: &mut Dice) -> Number {
+/// Turns 3, 21 and 22 keep what is flat in its plane; the others stand some of it on edge.
+fn turn(dice: &mut Dice, layout: &Layout) -> Number {
     if dice.once_in(2) {
         0
+    } else if layout.flat && !dice.once_in(4) {
+        dice.pick(&[3, 21, 22])
     } else {
         dice.between(0, 23)
     }
@@ -94,7 +107,7 @@ fn place(script: &mut Script, dice: &mut Dice, layout: &Layout) {
     let places = if layout.most_places < 8 { 8 } else { PLACES };
     let place = dice.below(places) as Number;
     let shape = dice.pick(&loaded(script));
-    let turn = turn(dice);
+    let turn = turn(dice, layout);
     let [x, y, z] = offset(dice, layout);
     script.tell("place", &[place, shape, turn, x, y, z]);
 }
@@ -115,7 +128,7 @@ fn with_pieces(script: &mut Script, dice: &mut Dice, layout: &Layout, taken: &[u
     let piece = dice.pick(taken) as Number;
     match dice.below(40) {
         0..=13 => {
-            let turn = turn(dice);
+            let turn = turn(dice, layout);
             let [x, y, z] = offset(dice, layout);
             script.tell("move", &[piece, turn, x, y, z]);
         }
@@ -189,6 +202,7 @@ fn full_desk(script: &mut Script, dice: &mut Dice) {
         unit: 2,
         spread: 3,
         most_places: PLACES,
+        flat: false,
     };
     fill(script, dice, &layout);
     for question in [
@@ -217,6 +231,7 @@ pub fn full_hulls(script: &mut Script, dice: &mut Dice) {
         unit: 100,
         spread: 30,
         most_places: PLACES,
+        flat: false,
     };
     for shape in 0..SHAPES as Number {
         let mut told = vec![shape];

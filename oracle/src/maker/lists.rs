@@ -1,5 +1,5 @@
-//! Pairs of corner lists: tiny and degenerate, boxes that share a face, edge or corner, full hulls
-//! brought into contact on purpose and then nudged, numbers at the ends, and lists to refuse.
+//! Pairs of corner lists: tiny and degenerate, boxes that share a face, edge or corner, flat ones in
+//! one plane, hulls brought into contact and then nudged, numbers at the ends, and lists to refuse.
 
 use super::dice::Dice;
 use super::script::Script;
@@ -10,7 +10,7 @@ const LIMIT: Number = 131_072;
 
 pub fn stretch(script: &mut Script, dice: &mut Dice) {
     for _ in 0..20 {
-        let (first, second) = match dice.below(20) {
+        let (first, second) = match dice.below(26) {
             0..=3 => tiny(dice),
             4..=5 => (any(dice, 3), any(dice, 3)),
             6..=9 => boxes(dice),
@@ -18,6 +18,7 @@ pub fn stretch(script: &mut Script, dice: &mut Dice) {
             14 => contact(dice, true),
             15..=16 => extreme(dice),
             17 => crossed(dice),
+            18..=23 => flats(dice),
             _ => {
                 refused(script, dice);
                 continue;
@@ -80,6 +81,60 @@ fn boxes(dice: &mut Dice) -> (Vec<Point>, Vec<Point>) {
         };
         first = first.into_iter().map(shear).collect();
         second = second.into_iter().map(shear).collect();
+    }
+    (first, second)
+}
+
+/// Corners at small multiples of some ways from the origin: all ends of a stretch along each, or any.
+fn spread(dice: &mut Dice, ways: &[Point]) -> Vec<Point> {
+    let sum = |along: &[Number]| {
+        let parts = ways.iter().zip(along).map(|(&way, &k)| times(k, way));
+        parts.fold([0; 3], plus)
+    };
+    if dice.once_in(3) {
+        let count = 1 + dice.below(5);
+        let any =
+            |dice: &mut Dice| -> Vec<Number> { ways.iter().map(|_| dice.between(-2, 2)).collect() };
+        return (0..count).map(|_| sum(&any(dice))).collect();
+    }
+    let ends: Vec<[Number; 2]> = ways
+        .iter()
+        .map(|_| {
+            let low = dice.between(-2, 1);
+            [low, dice.between(low, 2)]
+        })
+        .collect();
+    (0..1usize << ways.len())
+        .map(|k| {
+            let chosen = ends.iter().enumerate().map(|(i, end)| end[k >> i & 1]);
+            sum(&chosen.collect::<Vec<Number>>())
+        })
+        .collect()
+}
+
+/// Sheets, segments and points of one plane or one line, over each other, side by side or apart; or
+/// of planes that cross, or with a body among them; now and then one step out of the plane.
+fn flats(dice: &mut Dice) -> (Vec<Point>, Vec<Point>) {
+    let reach = dice.pick(&[1, 2, 5, 1_000, 20_000]);
+    let mut ways = cloud(dice, reach, 3);
+    if dice.once_in(3) {
+        ways = vec![[reach, 0, 0], [0, reach, 0], [0, 0, reach]];
+        dice.shuffle(&mut ways);
+    }
+    let (first, second) = match dice.below(10) {
+        0..=4 => (&ways[..2], &ways[..2]),
+        5..=6 => (&ways[..1], &ways[..1]),
+        7 => (&ways[..2], &ways[1..]),
+        8 => (&ways[..2], &ways[2..]),
+        _ => (&ways[..3], &ways[..2]),
+    };
+    let first = spread(dice, first);
+    let mut second = spread(dice, second);
+    if dice.once_in(8) {
+        let axis = dice.below(3);
+        for corner in &mut second {
+            corner[axis] += 1;
+        }
     }
     (first, second)
 }

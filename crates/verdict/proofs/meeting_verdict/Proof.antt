@@ -1,4 +1,4 @@
--- `verdict::meeting_verdict`: four weights are penetrating at once; a flat difference touches; else the weak walk decides.
+-- `verdict::meeting_verdict`: four weights are penetrating at once; else the weak walk decides.
 use mathlib.Core.Path.{refl, ap, _∙_}
 use Rattle.space.specs.Ranges.{upto-le}
 use Rattle.verdict_portal.specs.Exits.{sum3}
@@ -19,11 +19,11 @@ meeting-with-requires c κs = search needs
 
 returns : tie.Need-returns
 returns c =
-    let p = c .before .before .before .before .before .pre in
-    let h = c .before .before .before .before .gathered-of .ensures in
+    let p = c .before .before .before .before .pre in
+    let h = c .before .before .before .gathered-of .ensures in
     carries-is (c .meeting-with .ensures ∙ answer-eq (c .before .no-direction .ensures) refl) (
       refl,
-      carries-penetrating (penetrating-at-once (p .1 .framed) (c .before .before .before .if1 .taken) (p .1 .walked) (p .1 .met) h (c .before .before .if2 .taken))
+      carries-penetrating (penetrating-at-once (p .1 .framed) (p .1 .walked) (p .1 .met) h (c .before .before .if1 .taken))
           (weights (p .0 .0) (p .0 .1) (p .1 .framed) (p .1 .walked) (p .1 .met) h),
     )
 
@@ -31,11 +31,11 @@ frame-places-requires : tie.Need-frame-places-requires
 frame-places-requires c κs = search needs
 
 shift-of-requires : tie.Need-shift-of-requires
-shift-of-requires c κs = let p = c .before .before .before .before .before .before .pre in frame-corners (p .0 .0) (p .0 .1) (p .1 .framed) (c .before .before .frame-places .ensures)
+shift-of-requires c κs = let p = c .before .before .before .before .before .pre in frame-corners (p .0 .0) (p .0 .1) (p .1 .framed) (c .before .before .frame-places .ensures)
 
 walk-requires : tie.Need-walk-requires
 walk-requires c κs =
-    let p = c .before .before .before .before .before .before .before .pre in
+    let p = c .before .before .before .before .before .before .pre in
     let v = c .before .before .before .frame-places .ensures in (
       ground (p .0 .0) (p .0 .1) (p .1 .framed),
       begun-weak (p .0 .0) (p .0 .1) (p .1 .framed) (c .shift-of .ensures ∙ ap (λ w. sum3 (w .a) (w .b) (w .c)) v) v (p .1 .walked),
@@ -49,14 +49,14 @@ meeting-with-requires-2 c κs = search needs
 
 returns-2 : tie.Need-returns-2
 returns-2 c =
-    let p = c .before .before .before .before .before .before .before .before .before .before .before .pre in
+    let p = c .before .before .before .before .before .before .before .before .before .before .pre in
     let v = c .before .before .before .before .before .before .before .frame-places .ensures in
-    let k = weights (p .0 .0) (p .0 .1) (p .1 .framed) (p .1 .walked) (p .1 .met) (c .before .before .before .before .before .before .before .before .before .before .gathered-of .ensures) in
+    let k = weights (p .0 .0) (p .0 .1) (p .1 .framed) (p .1 .walked) (p .1 .met) (c .before .before .before .before .before .before .before .before .before .gathered-of .ensures) in
     carries-is (c .meeting-with2 .ensures ∙ answer-eq (c .before .no-direction2 .ensures) refl) (
       refl,
       carries-penetrating
-          (penetrating-by (p .0 .0) (p .0 .1) (p .1 .framed) (c .before .before .before .before .shift-of .ensures ∙ ap (λ w. sum3 (w .a) (w .b) (w .c)) v) v
-          (c .before .before .before .before .before .before .before .before .before .if1 .taken) (c .before .before .before .walk .ensures) (c .before .before .if3 .taken)) k,
+          (penetrating-by (p .1 .framed) (c .before .before .before .before .shift-of .ensures ∙ ap (λ w. sum3 (w .a) (w .b) (w .c)) v) v (c .before .before .before .walk .ensures)
+          (c .before .before .if2 .taken)) k,
     )
 
 meeting-with-requires-3 : tie.Need-meeting-with-requires-3
@@ -64,24 +64,15 @@ meeting-with-requires-3 c κs = search needs
 
 returns-3 : tie.Need-returns-3
 returns-3 c =
-    let p = c .before .before .before .before .before .before .before .before .before .before .before .pre in
+    let p = c .before .before .before .before .before .before .before .before .before .before .pre in
     let v = c .before .before .before .before .before .before .before .frame-places .ensures in
-    let k = weights (p .0 .0) (p .0 .1) (p .1 .framed) (p .1 .walked) (p .1 .met) (c .before .before .before .before .before .before .before .before .before .before .gathered-of .ensures) in
+    let k = weights (p .0 .0) (p .0 .1) (p .1 .framed) (p .1 .walked) (p .1 .met) (c .before .before .before .before .before .before .before .before .before .gathered-of .ensures) in
     carries-is (c .meeting-with3 .ensures) (
       refl,
-      carries-touching (touching-by (p .0 .0) (p .0 .1) (p .1 .framed) (c .before .before .before .before .shift-of .ensures ∙ ap (λ w. sum3 (w .a) (w .b) (w .c)) v) v
-          (c .before .before .before .before .before .before .before .before .before .if1 .taken) (c .before .before .before .walk .ensures) (c .before .before .if3 .left))
+      carries-touching (touching-by (p .1 .framed) (c .before .before .before .before .shift-of .ensures ∙ ap (λ w. sum3 (w .a) (w .b) (w .c)) v) v (c .before .before .before .walk .ensures)
+          (c .before .before .if2 .left))
           (upto-le tt (c .before .before .before .walk .ensures .reach)) k,
     )
-
-meeting-with-requires-4 : tie.Need-meeting-with-requires-4
-meeting-with-requires-4 c κs = search needs
-
-returns-4 : tie.Need-returns-4
-returns-4 c =
-    let p = c .before .before .before .before .pre in
-    let k = weights (p .0 .0) (p .0 .1) (p .1 .framed) (p .1 .walked) (p .1 .met) (c .before .before .before .gathered-of .ensures) in
-    carries-is (c .meeting-with4 .ensures) (refl, carries-touching (p .1 .framed .wall (c .before .before .if1 .left)) (p .1 .framed .reach) k)
 
 pub meeting-verdict-spec : {M : Type 1} → statement M
 meeting-verdict-spec =
@@ -98,6 +89,4 @@ meeting-verdict-spec =
     meeting-with-requires-2
     returns-2
     meeting-with-requires-3
-    returns-3
-    meeting-with-requires-4
-    returns-4)
+    returns-3)

@@ -1,5 +1,5 @@
 -- `verdict_frame::in_a_plane`: the frame of the definition, at the axis that was found.
-use mathlib.Core.Path.{refl, ap, _∙_}
+use mathlib.Core.Path.{ap, _∙_}
 use Rattle.space.specs.Vectors.{opposite}
 use Rattle.space.specs.Ranges.{upto-le}
 use Rattle.verdict_frame.specs.Frames.{thickOf}
@@ -35,7 +35,7 @@ returns c = record {
       (c .before .before .before .thick .ensures ∙ ap (thickOf (c .before .before .before .before .before .before .args .a)) (c .before .before .before .before .unit .ensures .0))
       (c .before .before .thick2 .ensures ∙ ap (thickOf (c .before .before .before .before .before .before .args .b)) (c .before .before .before .before .unit .ensures .0))
       (c .thick3 .ensures ∙ ap (thickOf (c .before .before .before .before .before .before .args .a))
-      (c .before .opposite .ensures .0 ∙ ap opposite (c .before .before .before .before .unit .ensures .0))) refl;
+      (c .before .opposite .ensures .0 ∙ ap opposite (c .before .before .before .before .unit .ensures .0)));
 }
 
 pub in-a-plane-spec : {M : Type 1} → statement M

@@ -1,6 +1,6 @@
 -- `verdict_frame::on_a_line`: the frame of the definition, at the axis that was found.
 use mathlib.Core.Path.{ap, ap₂, _∙_}
-use Rattle.space.specs.Vectors.{plus, minus, cross}
+use Rattle.space.specs.Vectors.{plus, minus}
 use Rattle.space.specs.Ranges.{upto-le}
 use Rattle.verdict_portal.specs.Flat.{unit, nextAxis}
 use Rattle.verdict_frame.specs.Frames.{thickOf}
@@ -51,31 +51,20 @@ thick-requires-3 c κs = (
       (c .before .before .before .before .before .before .before .unit .ensures .1) (c .before .before .before .before .before .unit2 .ensures .1) (c .minus2 .ensures .0),
 )
 
-cross-requires : tie.Need-cross-requires
-cross-requires c κs = (
-  upto-le tt (c .before .before .before .before .before .before .before .before .before .before .before .before .pre),
-  upto-le tt
-      (c .before .before .before .before .before .before .before .before .unit .ensures .1),
-)
-
 returns : tie.Need-returns
 returns c =
-    let ej = c .before .before .before .before .before .before .before .before .before .before .next-axis .ensures in
-    let e = c .before .before .before .before .before .before .before .before .before .unit .ensures .0 ∙ ap unit ej in
-    let f = c .before .before .before .before .before .before .before .unit2 .ensures .0 ∙ ap unit
-    (c .before .before .before .before .before .before .before .before .next-axis2 .ensures ∙ ap nextAxis ej) in
-    let g = c .before .before .before .before .before .before .plus .ensures .0 ∙ ap₂ plus e f in
+    let ej = c .before .before .before .before .before .before .before .before .before .next-axis .ensures in
+    let e = c .before .before .before .before .before .before .before .before .unit .ensures .0 ∙ ap unit ej in
+    let f = c .before .before .before .before .before .before .unit2 .ensures .0 ∙ ap unit (c .before .before .before .before .before .before .before .next-axis2 .ensures ∙ ap nextAxis ej) in
+    let g = c .before .before .before .before .before .plus .ensures .0 ∙ ap₂ plus e f in
+    let a = c .before .before .before .before .before .before .before .before .before .before .before .before .args .a in
     record {
-      axis-is = c .before .before .before .before .before .before .before .before .before .before .before .axis-of .result;
-      of = c .before .before .before .before .before .before .before .before .before .before .before .axis-of .ensures;
+      axis-is = c .before .before .before .before .before .before .before .before .before .before .axis-of .result;
+      of = c .before .before .before .before .before .before .before .before .before .before .axis-of .ensures;
       is =
-          frame-eq g (c .before .before .before .before .before .thick .ensures ∙ ap
-          (thickOf (c .before .before .before .before .before .before .before .before .before .before .before .before .before .args .a)) g) (c .before .before .before .thick2 .ensures ∙ ap
-          (thickOf (c .before .before .before .before .before .before .before .before .before .before .before .before .before .args .a))
-          (c .before .before .before .before .minus .ensures .0 ∙ ap₂ minus f e)) (c .before .thick3 .ensures ∙ ap
-          (thickOf (c .before .before .before .before .before .before .before .before .before .before .before .before .before .args .a))
-          (c .before .before .minus2 .ensures .0 ∙ ap₂ minus e f)) (c .cross .ensures .0 ∙ ap
-          (cross (c .before .before .before .before .before .before .before .before .before .before .before .before .before .args .a .at)) e);
+          frame-eq g (c .before .before .before .before .thick .ensures ∙ ap (thickOf a) g)
+          (c .before .before .thick2 .ensures ∙ ap (thickOf a) (c .before .before .before .minus .ensures .0 ∙ ap₂ minus f e))
+          (c .thick3 .ensures ∙ ap (thickOf a) (c .before .minus2 .ensures .0 ∙ ap₂ minus e f));
     }
 
 pub on-a-line-spec : {M : Type 1} → statement M
@@ -93,5 +82,4 @@ on-a-line-spec =
     thick-requires-2
     minus-requires-2
     thick-requires-3
-    cross-requires
     returns)
