@@ -2,12 +2,14 @@
 //! Exit status 0: done, and nothing wrong; 1: some answer is wrong; 2: not understood, or unreadable.
 
 use oracle::bench;
+use oracle::files;
 use oracle::judge::{judge, next_line, Manner};
 use oracle::maker::{make, Kind};
 use oracle::program::{answer, Program};
 use oracle::words::passed_over;
 use std::fs::File;
 use std::io::{self, BufRead, BufReader, BufWriter, Write};
+use std::path::Path;
 use std::process::ExitCode;
 
 const USAGE: &str = "\
@@ -15,6 +17,8 @@ oracle judge [--search] [--show N] COMMANDS ANSWERS   judge each answer; - is st
 oracle answer COMMANDS                                answer by the judge's own model
 oracle make SEED COUNT [KIND]                         write a seeded script of COUNT commands
 oracle bench                                          write the fixed script of bench pieces
+oracle files                                          write the fixed script of scanned files
+oracle files FOLDER                                   write the files that it names to a folder
 ";
 
 fn main() -> ExitCode {
@@ -42,6 +46,11 @@ fn run(words: &[&str]) -> io::Result<Option<usize>> {
         ["judge", rest @ ..] => judge_files(rest, &mut out)?,
         ["answer", commands] => Some(answer_all(opened(commands)?, &mut out)?),
         ["bench"] => Some(written(&bench::script(), &mut out)?),
+        ["files"] => Some(written(&files::script(), &mut out)?),
+        ["files", folder] => {
+            files::write(Path::new(folder))?;
+            Some(0)
+        }
         ["make", seed, count] => made(seed, count, Kind::All.word(), &mut out)?,
         ["make", seed, count, kind] => made(seed, count, kind, &mut out)?,
         _ => None,

@@ -1,4 +1,4 @@
-//! What the desk program must answer to each line, as far as document 01 pins the answer down.
+//! What the desk program must answer to each line, as far as the documents pin the answer down.
 //! Witnesses and the report's wording may vary: there the lists, or the contacts, are handed on.
 
 use crate::balance::balance;
@@ -7,9 +7,14 @@ use crate::floats::{shown, three_steps};
 use crate::lengths;
 use crate::menus;
 use crate::point::{points, Number, Point};
+use crate::stl;
 use crate::verdict::{decide, Verdict};
 use crate::words::{read, Command, ROOM_CELLS};
+use std::ffi::OsStr;
 use std::fmt::Write;
+use std::fs::File;
+use std::io::Read;
+use std::os::unix::ffi::OsStrExt;
 
 /// What must be answered.
 #[derive(Debug, PartialEq, Eq)]
@@ -41,6 +46,26 @@ impl Default for Program {
 }
 
 type Answer = Result<Expected, Number>;
+
+/// `load-stl` has room of its own: as much as any shape takes.
+const OWN_ROOM: usize = usize::MAX;
+
+/// The longest file that `load-stl` takes: 1 MiB.
+pub const LONGEST_FILE: usize = 1 << 20;
+
+/// What is answered to a line that says no command, or names a file that cannot be had.
+fn no_command() -> Expected {
+    Expected::Line(String::from("?"))
+}
+
+/// The bytes of a file, from the folder in which the judge runs; `None` where they cannot be read or are too many.
+fn file_at(path: &[u8]) -> Option<Vec<u8>> {
+    let mut bytes = Vec::new();
+    let file = File::open(OsStr::from_bytes(path)).ok()?;
+    let most = LONGEST_FILE as u64 + 1;
+    file.take(most).read_to_end(&mut bytes).ok()?;
+    (bytes.len() <= LONGEST_FILE).then_some(bytes)
+}
 
 /// `0` and the numbers, with one space between.
 fn done(numbers: &[Number]) -> Answer {
@@ -76,7 +101,7 @@ impl Program {
     /// Takes in a line that is not passed over, and says what must be answered.
     pub fn told(&mut self, line: &[u8]) -> Expected {
         let Some(command) = read(line) else {
-            return Expected::Line(String::from("?"));
+            return no_command();
         };
         match self.run(command) {
             Ok(expected) => expected,
@@ -122,6 +147,18 @@ impl Program {
                 translated,
                 english,
             } => menu_line(k, &translated, &english),
+            Command::Stl(file) => {
+                let numbers = stl::corners(&file, self.room)?;
+                counted(numbers.len(), &numbers)
+            }
+            Command::Triangle { at, file } => match stl::step(&file, at)? {
+                Some(numbers) => done(&numbers),
+                None => Ok(Expected::Line(String::from("0 none"))),
+            },
+            Command::LoadStl { shape, path } => match file_at(&path) {
+                Some(file) => accepted(desk.load(shape, &stl::corners(&file, OWN_ROOM)?)),
+                None => Ok(no_command()),
+            },
             Command::Spoil { part, cell, value } => {
                 desk.put(part, cell, value);
                 done(&[])

@@ -1,5 +1,5 @@
-//! Document 01's refusals by number, and the rule that the lowest number that applies is given.
-//! A call lists its numbers with their conditions; their order in the list decides nothing.
+//! The refusals by number, and the rule that the lowest number that applies is given. There a call lists
+//! its numbers with their conditions in any order; a request's own order, where it has one, replaces the rule.
 
 use crate::point::Number;
 
@@ -23,12 +23,23 @@ pub const NOT_WHOLE: Number = 17;
 pub const FLOAT_RANGE: Number = 18;
 pub const NO_SIZE: Number = 19;
 pub const PLACED_RANGE: Number = 20;
+pub const FILE_LENGTH: Number = 21;
+pub const NO_TRIANGLES: Number = 22;
+pub const MANY_CORNERS: Number = 23;
 
 /// Refuses by the lowest of the numbers whose condition holds.
 pub fn lowest(conditions: &[(Number, bool)]) -> Result<(), Number> {
     let applying = conditions.iter().filter(|(_, applies)| *applies);
     match applying.map(|(number, _)| *number).min() {
         Some(number) => Err(number),
+        None => Ok(()),
+    }
+}
+
+/// Refuses by the first of the numbers whose condition holds, in the order given.
+pub fn first(conditions: &[(Number, bool)]) -> Result<(), Number> {
+    match conditions.iter().find(|(_, applies)| *applies) {
+        Some((number, _)) => Err(*number),
         None => Ok(()),
     }
 }

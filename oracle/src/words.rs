@@ -51,6 +51,15 @@ pub enum Command {
         translated: Vec<u8>,
         english: Vec<u8>,
     },
+    Stl(Vec<u8>),
+    Triangle {
+        at: usize,
+        file: Vec<u8>,
+    },
+    LoadStl {
+        shape: Number,
+        path: Vec<u8>,
+    },
     Report,
     Spoil {
         part: Part,
@@ -77,6 +86,9 @@ pub fn read(line: &[u8]) -> Option<Command> {
     if let Some(text) = line.strip_prefix(b"length ") {
         return Some(Command::Length(text.to_vec()));
     }
+    if let Some(rest) = line.strip_prefix(b"load-stl ") {
+        return load_stl(rest);
+    }
     let mut words = line.split(|&byte| byte == b' ');
     let name = words.next()?;
     let rest: Vec<&[u8]> = words.collect();
@@ -90,6 +102,8 @@ pub fn read(line: &[u8]) -> Option<Command> {
         b"scan" => Some(Command::Scan(patterns(&rest)?)),
         b"blank" => blank(&rest),
         b"line" => menu_line(&rest),
+        b"stl" => stl(&rest),
+        b"triangle" => triangle(&rest),
         b"spoil" => spoil(&rest),
         b"lists" => lists(&numbers(&rest)?),
         _ => numbered(name, &numbers(&rest)?),
@@ -194,6 +208,32 @@ fn menu_line(words: &[&[u8]]) -> Option<Command> {
         k: usize::try_from(number(k)?).ok()?,
         translated: text(translated)?,
         english: text(english)?,
+    })
+}
+
+fn stl(words: &[&[u8]]) -> Option<Command> {
+    match words {
+        [file] => Some(Command::Stl(text(file)?)),
+        _ => None,
+    }
+}
+
+fn triangle(words: &[&[u8]]) -> Option<Command> {
+    let [at, file] = words else {
+        return None;
+    };
+    Some(Command::Triangle {
+        at: usize::try_from(number(at)?).ok()?,
+        file: text(file)?,
+    })
+}
+
+/// A number, one space, and a path of all bytes after it.
+fn load_stl(rest: &[u8]) -> Option<Command> {
+    let space = rest.iter().position(|&byte| byte == b' ')?;
+    Some(Command::LoadStl {
+        shape: number(&rest[..space])?,
+        path: rest[space + 1..].to_vec(),
     })
 }
 

@@ -8,6 +8,7 @@ use native.Mathlib.Omega.{arith}
 use lib.IntN.{ℤ, pos, negsuc, natAbs, _-ℤ_, -ℤ-one}
 use Rattle.limits.specs.Limits
 use Rattle.limits.specs.Lowest.{Lowest}
+use Rattle.limits.specs.LowestLaws.{positive, lowest-first, lowest-then}
 use Rattle.limits.specs.Numbered.{Numbered}
 use Rattle.marks.specs.Marks.{OthersStayMarks}
 use Rattle.marks.specs.Keys.{KeyedMarks}
@@ -22,7 +23,7 @@ use Rattle.desk_state.specs.Desk.{Desk, InOrder, OffsetFits}
 use Rattle.desk_put.specs.PutLaws.{put-others-marks}
 use Rattle.desk_put.specs.Handled.{MayPut, PutDown}
 use Rattle.desk_refusals.specs.Parts.{takenRefusals, placementRefusals}
-use Rattle.desk_refusals.specs.Asked.{Asked, asked-refused, positive, lowest-first, lowest-then, TakenAsked, PlacementAsked, placement-handed}
+use Rattle.desk_refusals.specs.Asked.{Asked, asked-refused, TakenAsked, PlacementAsked, placement-handed}
 use Rattle.desk.specs.Commands.{movedTo, MovedBy, moveRefusals, Moves}
 use Rattle.desk.specs.CommandLaws.{refuses, accepts}
 use Rattle.desk.specs.declared.Outcome.the-variants as outcome

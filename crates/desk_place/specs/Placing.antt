@@ -8,6 +8,7 @@ use native.Mathlib.Omega.{arith}
 use lib.IntN.{ℤ, natAbs}
 use Rattle.limits.specs.Limits
 use Rattle.limits.specs.Lowest.{Refusal, Lowest}
+use Rattle.limits.specs.LowestLaws.{positive, lowest-first, lowest-then}
 use Rattle.pieces.specs.declared.placement.Placement.{Placement}
 use Rattle.pieces.specs.Pieces.{Store, Loaded, storeOf}
 use Rattle.pieces_test.specs.OrderTest.{loaded-alone}
@@ -18,7 +19,7 @@ use Rattle.limits.specs.Numbered.{Numbered}
 use Rattle.desk_refusals.specs.Parts.{shapeRefusals, emptyRefusals, takenRefusals, placementRefusals}
 use Rattle.pieces.specs.Index.{Indexed}
 use Rattle.pieces.specs.IndexLaws.{indexed-is}
-use Rattle.desk_refusals.specs.Asked.{Asked, asked-refused, positive, lowest-first, lowest-then, ShapeAsked, EmptyAsked, TakenAsked, PlacementAsked}
+use Rattle.desk_refusals.specs.Asked.{Asked, asked-refused, ShapeAsked, EmptyAsked, TakenAsked, PlacementAsked}
 use Rattle.desk.specs.Commands.{placeRefusals, Places, Removed}
 use Rattle.desk.specs.CommandLaws.{refuses, accepts}
 use Rattle.desk.specs.declared.Outcome.the-variants as outcome

@@ -1,8 +1,7 @@
 -- Refusals asked for part by part: what one part's number says, and how the parts make the whole list of a command.
 -- A part that finds nothing hands on what it has found to hold.
 use mathlib.Core.Path.{_≡_, sym}
-use mathlib.Core.List.{List, [], _∷_, _++_}
-use mathlib.Core.Logic.{inl, inr}
+use mathlib.Core.List.{List, []}
 use mathlib.Core.Bool.{Bool}
 use Prim.Native.Nat.{ℕ, _<_}
 use native.Mathlib.Omega.{arith}
@@ -19,10 +18,6 @@ use Rattle.desk_refusals.specs.Parts.{shapeRefusals, emptyRefusals, take
 pub record Asked (l : List Refusal) (Given : Type 0) (n : ℕ) : Type 0 where
   pub refusal : Lowest l n
   pub given : n ≡ 0 → Given
-
--- a number that is not 0
-pub positive : {n : ℕ} → (n ≡ 0 → ⊥) → 0 < n
-positive f = omega (arith, f)
 
 pub asked-refused : {l : List Refusal} {G : Type 0} {n : ℕ} → Lowest l n → 0 < n → Asked l G n
 asked-refused h k = record { refusal = h; given = λ e. absurd (omega arith) }
@@ -54,22 +49,6 @@ abbrev pub PairAsked : List ℤ → ℤ → ℤ → ℕ → Type 0
 PairAsked places first second n = Asked (twoRefusals places first second) (MayPair places first second) n
 
 -- ---- laws
--- "0 is done": no refusal has that number
-abbrev pub Positive : List Refusal → Type 0
-Positive [] = Unit {0}
-Positive (r ∷ rest) = (0 < r .number) × Positive rest
-
--- the first part decides where it refuses, and else the rest does
-pub lowest-first : (l k : List Refusal) {n : ℕ} → Lowest l n → 0 < n → Lowest (l ++ k) n
-lowest-first [] k h z = absurd (omega arith)
-lowest-first (r ∷ l) k (inl h) z = inl h
-lowest-first (r ∷ l) k (inr h) z = inr (h .0, lowest-first l k (h .1) z)
-
-pub lowest-then : (l k : List Refusal) (n : ℕ) → Positive l → Lowest l 0 → Lowest k n → Lowest (l ++ k) n
-lowest-then [] k n p h m = m
-lowest-then (r ∷ l) k n p (inl h) m = absurd (omega (arith, h .1, p .0))
-lowest-then (r ∷ l) k n p (inr h) m = inr (h .0, lowest-then l k n (p .1) (h .1) m)
-
 -- an offset that was handed on is the one that was handed in
 pub offset-handed : {b : Bool} {u v w x y z : ℤ} → u ≡ x → v ≡ y → w ≡ z → Decides b (OffsetFits u v w) → Decides b (OffsetFits x y z)
 offset-handed {b} e f g d = rw (sym e, sym f, sym g) d

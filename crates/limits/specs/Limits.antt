@@ -158,3 +158,15 @@ sizeZero = 19
 
 abbrev pub placedRange : ℕ
 placedRange = 20
+
+-- what requests add (document 02). W2: "New refusals, after 01's: 21 length under 84 or not exactly 84 + 50 × count; 22 count zero; 23 more distinct
+-- corners than a shape may have." Its order is its own, "21, 22, the lowest of 16 to 18 over all corners, 23, then 13 for short room": "a request's own
+-- order replaces the lowest number". So its lists of refusals stand in that order, and are not among those that rise
+abbrev pub fileLength : ℕ
+fileLength = 21
+
+abbrev pub countZero : ℕ
+countZero = 22
+
+abbrev pub manyCorners : ℕ
+manyCorners = 23

@@ -4,7 +4,7 @@ use mathlib.Core.Path.{_≡_}
 use mathlib.Core.List.{List, [], _∷_}
 use mathlib.Core.Logic.{_⊎_}
 use mathlib.Core.Bool.{Bool, true, _&&_}
-use Prim.Native.Nat.{ℕ}
+use Prim.Native.Nat.{ℕ, _<_}
 use lib.Dec.{T, ltb}
 
 -- a refusal's number, and when it applies: a statement of what was handed in
@@ -29,6 +29,11 @@ risesAbove k (r ∷ rest) = ltb k (r .number) && risesAbove (r .number) rest
 
 abbrev pub Rising : List Refusal → Type 0
 Rising l = T (risesAbove 0 l)
+
+-- "0 is done": no refusal of the list has that number
+abbrev pub Positive : List Refusal → Type 0
+Positive [] = Unit {0}
+Positive (r ∷ rest) = (0 < r .number) × Positive rest
 
 -- n is the number of a refusal of the list that applies, be there others or not
 abbrev pub Applies : List Refusal → ℕ → Type 0

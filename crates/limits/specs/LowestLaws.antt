@@ -1,13 +1,13 @@
 -- Why `Lowest` is the lowest number that applies: of a list whose numbers rise it is no greater than any that applies, and not 0 where one does.
 -- And "only where it applies": of any list, a number that is not 0 is that of a refusal which applies.
 use mathlib.Core.Path.{_≡_, sym, _∙_}
-use mathlib.Core.List.{List, [], _∷_}
+use mathlib.Core.List.{List, [], _∷_, _++_}
 use mathlib.Core.Logic.{inl, inr}
 use mathlib.Core.Bool.{Bool, true, false, _&&_}
 use Prim.Native.Nat.{ℕ, _≤_, _<_}
 use native.Mathlib.Omega.{arith}
 use lib.Dec.{T, ltb, ltb→lt}
-use Rattle.limits.specs.Lowest.{Refusal, Lowest, risesAbove, Rising, Applies}
+use Rattle.limits.specs.Lowest.{Refusal, Lowest, risesAbove, Rising, Positive, Applies}
 
 both : (a b : Bool) → T (a && b) → T a × T b
 both true b t = (tt, t)
@@ -42,6 +42,21 @@ pub lowest-applies : (l : List Refusal) {n : ℕ} → Lowest l n → 0 < n → A
 lowest-applies [] h z = absurd (omega arith)
 lowest-applies (r ∷ rest) (inl h) z = inl h
 lowest-applies (r ∷ rest) (inr h) z = inr (lowest-applies rest (h .1) z)
+
+-- ---- a list in two parts: the first decides where it refuses, and else the rest does
+-- a number that is not 0
+pub positive : {n : ℕ} → (n ≡ 0 → ⊥) → 0 < n
+positive f = omega (arith, f)
+
+pub lowest-first : (l k : List Refusal) {n : ℕ} → Lowest l n → 0 < n → Lowest (l ++ k) n
+lowest-first [] k h z = absurd (omega arith)
+lowest-first (r ∷ l) k (inl h) z = inl h
+lowest-first (r ∷ l) k (inr h) z = inr (h .0, lowest-first l k (h .1) z)
+
+pub lowest-then : (l k : List Refusal) (n : ℕ) → Positive l → Lowest l 0 → Lowest k n → Lowest (l ++ k) n
+lowest-then [] k n p h m = m
+lowest-then (r ∷ l) k n p (inl h) m = absurd (omega (arith, h .1, p .0))
+lowest-then (r ∷ l) k n p (inr h) m = inr (h .0, lowest-then l k n (p .1) (h .1) m)
 
 -- the lowest is one number
 pub lowest-once : (l : List Refusal) {m n : ℕ} → Lowest l m → Lowest l n → m ≡ n

@@ -52,4 +52,5 @@ theRefusals = record {
       Limits.done ∷ Limits.disorder ∷ Limits.shapeNumber ∷ Limits.listLength ∷ Limits.cornerRange ∷ Limits.shapeLoaded ∷ Limits.shapeMissing
       ∷ Limits.placeNumber ∷ Limits.placeTaken ∷ Limits.placeEmpty ∷ Limits.turnNumber ∷ Limits.offsetRange ∷ Limits.samePlace ∷ Limits.shortRoom ∷ [];
   text = Limits.lengthForm ∷ Limits.lengthRange ∷ Limits.notFinite ∷ Limits.notWhole ∷ Limits.floatRange ∷ Limits.sizeZero ∷ Limits.placedRange ∷ [];
+  files = Limits.fileLength ∷ Limits.countZero ∷ Limits.manyCorners ∷ [];
 }

@@ -1,4 +1,4 @@
-// Every number that document 01 fixes and a request may change, once: sizes, ranges, and the refusals by name.
+// Every number that document 01 fixes and a request may change or add to, once: sizes, ranges, and the refusals by name.
 // specs/ has the same numbers for contracts; the four `tied_` functions below tie the two together.
 ghost use mathlib.Core.Path.{_≡_};
 ghost use Rattle.limits.specs.Tied.{theSizes, theVerdicts, theRanges, theRefusals};
@@ -106,6 +106,13 @@ pub const SIZE_ZERO: u8 = 19;
 
 pub const PLACED_RANGE: u8 = 20;
 
+// The refusals that requests add (document 02), of files.
+pub const FILE_LENGTH: u8 = 21;
+
+pub const COUNT_ZERO: u8 = 22;
+
+pub const MANY_CORNERS: u8 = 23;
+
 struct Sizes {
     shapes: usize,
     corners: usize,
@@ -144,6 +151,7 @@ struct Verdicts {
 struct Refusals {
     desk: [u8; 14],
     text: [u8; 7],
+    files: [u8; 3],
 }
 
 // The sizes of this file are those of specs/.
@@ -196,7 +204,7 @@ fn tied_ranges() -> Ranges
     }
 }
 
-// The refusals of this file are those of specs/, and each name has its number of document 01.
+// The refusals of this file are those of specs/, and each name has its number of document 01, or of the request that adds it.
 fn tied_refusals() -> Refusals
     ensures { λ r. ⌜ r ≡ theRefusals ⌝ }
 {
@@ -226,5 +234,6 @@ fn tied_refusals() -> Refusals
             SIZE_ZERO,
             PLACED_RANGE,
         ],
+        files: [FILE_LENGTH, COUNT_ZERO, MANY_CORNERS],
     }
 }

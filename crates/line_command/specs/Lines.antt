@@ -13,12 +13,13 @@ use Rattle.line.specs.Behind.{Finds, NotIn}
 use Rattle.line_spoil.specs.Cells.{CellOf}
 use Rattle.line_spoil.specs.declared.Cell.{Cell}
 use Rattle.line_command.specs.Names.{lengthWord, lineWord, listsWord, scanWord, showWord, blankWord, roomWord, lendWord, spoilWord, loadWord}
+use Rattle.line_command.specs.Names.{stlWord, triangleWord, loadStlWord}
 use Rattle.line_command.specs.Names.{placeWord, moveWord, removeWord, pairWord, freshWord, contactsWord, rowsWord, talliesWord, marksWord, reportWord}
 use Rattle.desk.specs.declared.Command.the-variants.{Start, Load, Place, Move, Remove}
 use Rattle.line_command.specs.declared.Line.{Line}
-use Rattle.line_command.specs.declared.Line.the-variants.{Tell, Ask, Spoil, Other}
+use Rattle.line_command.specs.declared.Line.the-variants.{Tell, Ask, Spoil, LoadFile, Other}
 use Rattle.line_command.specs.declared.Asked.the-variants.{Pair, Contacts, Rows, Tallies, Marks, Report}
-use Rattle.line_command.specs.declared.Other.the-variants.{Length, MenuLine, Lists, Scan, Show, Blank, Room, Lend, Nothing, Unknown}
+use Rattle.line_command.specs.declared.Other.the-variants.{Length, MenuLine, Lists, Scan, Show, Blank, Room, Lend, Stl, Triangle, Nothing, Unknown}
 
 -- a line that is no command
 abbrev pub unknown : Line
@@ -71,7 +72,7 @@ deskWords numbers =
     ∷ (reportWord, takes 0 numbers (Ask Report))
     ∷ []
 
--- the words that the desk has no part in, whatever is behind them
+-- the words that the desk has no part in, and the load from a file, whatever is behind them
 abbrev pub otherWords : List (List ℕ × Line)
 otherWords =
     (lengthWord, Other Length)
@@ -82,6 +83,9 @@ otherWords =
     ∷ (blankWord, Other Blank)
     ∷ (roomWord, Other Room)
     ∷ (lendWord, Other Lend)
+    ∷ (stlWord, Other Stl)
+    ∷ (triangleWord, Other Triangle)
+    ∷ (loadStlWord, LoadFile)
     ∷ []
 
 -- ---- the command of a line
@@ -94,7 +98,7 @@ OfDesk word behind room exit c =
     ((numbers : List ℤ) × AreNumbers behind numbers × (length numbers ≤ length room) × (exit ≡ filled numbers room) × Finds word (deskWords numbers) Unknowing c)
     ⊎ (((numbers : List ℤ) → AreNumbers behind numbers → length numbers ≤ length room → ⊥) × (c ≡ unknown))
 
--- a word that the desk has no part in, `spoil` with the cell that it names, or a word of the desk
+-- a word that the desk has no part in or the load from a file, `spoil` with the cell that it names, or a word of the desk
 abbrev pub OfWord : List ℕ → List (List ℕ) → List ℤ → List ℤ → Line → Type 0
 OfWord word behind room exit c =
     ((exit ≡ room) × Finds word otherWords (λ _. ⊥) c)

@@ -35,6 +35,18 @@ roomWord = 114 ∷ 111 ∷ 111 ∷ 109 ∷ []
 abbrev pub lendWord : List ℕ
 lendWord = 108 ∷ 101 ∷ 110 ∷ 100 ∷ []
 
+-- "stl"
+abbrev pub stlWord : List ℕ
+stlWord = 115 ∷ 116 ∷ 108 ∷ []
+
+-- "triangle"
+abbrev pub triangleWord : List ℕ
+triangleWord = 116 ∷ 114 ∷ 105 ∷ 97 ∷ 110 ∷ 103 ∷ 108 ∷ 101 ∷ []
+
+-- "load-stl", with the byte 45 for the "-"
+abbrev pub loadStlWord : List ℕ
+loadStlWord = 108 ∷ 111 ∷ 97 ∷ 100 ∷ 45 ∷ 115 ∷ 116 ∷ 108 ∷ []
+
 -- "spoil"
 abbrev pub spoilWord : List ℕ
 spoilWord = 115 ∷ 112 ∷ 111 ∷ 105 ∷ 108 ∷ []

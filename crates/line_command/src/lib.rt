@@ -15,11 +15,13 @@ use line_spoil::cell_of;
 use pieces::placement::Offset;
 use pieces::placement::Placement;
 
-// A command of the desk, and how many numbers the line has: of a load those behind the first are the corners'.
+// A command of the desk, and how many numbers the line has: of a load those behind the first are the corners'. `LoadFile` is a load from a
+// file, whose name is no number.
 pub enum Line {
     Tell(Command, usize),
     Ask(Asked),
     Spoil(Cell),
+    LoadFile,
     Other(Other),
 }
 
@@ -43,6 +45,8 @@ pub enum Other {
     Blank,
     Room,
     Lend,
+    Stl,
+    Triangle,
     Nothing,
     Unknown,
 }
@@ -86,11 +90,14 @@ fn is_passed_over(line: &[u8]) -> bool
     line[0] == b'#'
 }
 
-// By the line's first word: what the desk has no part in, a cell, or what the desk is told or asked.
+// By the line's first word: what the desk has no part in, a file, a cell, or what the desk is told or asked.
 fn of_word(word: &[u8], line: &[u8], end: usize, numbers: &mut [i32]) -> Line
     ensures { λ r. ⌜ OfWord (now (word .entry)) (behind (now (line .entry)) end) (now (numbers .entry)) (now (numbers .exit)) r ⌝ }
 {
-    match name_of(word, b" length line lists scan show blank room lend spoil") {
+    match name_of(
+        word,
+        b" length line lists scan show blank room lend stl triangle load-stl spoil",
+    ) {
         0 => Line::Other(Other::Length),
         1 => Line::Other(Other::MenuLine),
         2 => Line::Other(Other::Lists),
@@ -99,7 +106,10 @@ fn of_word(word: &[u8], line: &[u8], end: usize, numbers: &mut [i32]) -> Line
         5 => Line::Other(Other::Blank),
         6 => Line::Other(Other::Room),
         7 => Line::Other(Other::Lend),
-        8 => Line::Spoil(cell_of(line, end, numbers)),
+        8 => Line::Other(Other::Stl),
+        9 => Line::Other(Other::Triangle),
+        10 => Line::LoadFile,
+        11 => Line::Spoil(cell_of(line, end, numbers)),
         _ => of_desk(word, line, end, numbers),
     }
 }

@@ -1,9 +1,9 @@
 // The commands on floats: a scanned point, the millimetres that steps show, and a blank's corners.
 // A float is read and printed as its bit pattern, 8 hex digits. `end` is where the command's own word ends.
 ghost use mathlib.Core.Path.{_≡_};
-ghost use Prim.Native.Nat.{_≤_};
 ghost use lib.Ieee.{binary32, ofBits};
-ghost use lib.ListN.{length};
+use crate::listing::listed;
+use crate::listing::wide_number;
 use line::lent;
 use line::lent::at_most;
 use line::names::name_of;
@@ -99,30 +99,6 @@ fn corners(b: blanks::Blank, room: &mut [i32], out: &mut [u8], at: usize) -> usi
     }
     let count = written.count;
     listed(&room[0..count], out, at)
-}
-
-// How many numbers there are, and the numbers.
-fn listed(numbers: &[i32], out: &mut [u8], at: usize) -> usize
-    requires { ⌜ length (now numbers) ≤ 8192 ⌝ }
-{
-    let next = out::word(out, at, b"0");
-    let next = out::next_number(out, next, numbers.len() as i64);
-    let next = each(numbers, out, next);
-    out::end(out, next)
-}
-
-fn each(numbers: &[i32], out: &mut [u8], at: usize) -> usize {
-    let mut next = at;
-    let mut i: usize = 0;
-    while i < numbers.len() {
-        next = out::next_number(out, next, wide_number(numbers[i]));
-        i += 1;
-    }
-    next
-}
-
-fn wide_number(n: i32) -> i64 {
-    n as i64
 }
 
 fn read_blank(line: &[u8], end: usize) -> BlankRead {

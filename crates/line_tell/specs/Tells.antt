@@ -3,12 +3,16 @@
 use Prim.Native.Nat.{ℕ}
 use mathlib.Core.Path.{_≡_}
 use mathlib.Core.List.{List}
+use mathlib.Core.Logic.{_⊎_}
 use lib.IntN.{ℤ}
 use lib.ListN.{take, drop}
 use Rattle.desk_state.specs.Desk.{Desk}
 use Rattle.desk.specs.Commands.{Does}
 use Rattle.desk.specs.declared.Command.{Command}
+use Rattle.desk.specs.declared.Command.the-variants.{Load}
 use Rattle.desk.specs.declared.Outcome.{Outcome}
+use Rattle.line_file.specs.Requests.{Requests}
+use Rattle.line_file.specs.declared.Request.the-variants.{Load as Loading}
 
 -- a load's corner list: of the line's n numbers those behind the first
 abbrev pub behindFirst : ℕ → List ℤ → List ℤ
@@ -23,3 +27,9 @@ pub record Tells (command : Command) (count : ℕ) (numbers : List ℤ) (m : ℕ
   pub outcome : Outcome
   pub does : Does command (behindFirst count numbers) (lentTo m before) (lentTo m after) outcome
   pub rest : drop m (after .marks) ≡ drop m (before .marks)
+
+-- `load-stl`: the desk stays, or it is told to load, at the number that the line names, the corners of a file
+abbrev pub LoadsFile : List ℕ → ℕ → Desk → Desk → Type 0
+LoadsFile line m before after =
+    (after ≡ before)
+    ⊎ ((s : ℤ) × (count : ℕ) × (numbers : List ℤ) × Requests line numbers (Loading s count) × Tells (Load s) count numbers m before after)

@@ -1,5 +1,5 @@
-// What the desk can be told by a line: its command, with the corner numbers that stand behind the line's first number.
-// The numbers are handed on as they stand in the line; the desk refuses what it does not take.
+// What the desk can be told by a line: its command, with the corner numbers that stand behind the line's first number or in a file.
+// The numbers are handed on as they stand there; the desk refuses what it does not take.
 ghost use mathlib.Core.Path.{_≡_};
 ghost use mathlib.Core.List.{[]};
 ghost use Prim.Native.Nat.{min};
@@ -7,13 +7,15 @@ ghost use lib.ListN.{length, getD};
 ghost use Rattle.limits.specs.Limits;
 ghost use Rattle.desk_state.specs.Desk.{deskOf};
 ghost use Rattle.desk.specs.declared.Command.the-variants.{Start};
-ghost use Rattle.line_tell.specs.Tells.{behindFirst, Tells};
+ghost use Rattle.line_tell.specs.Tells.{behindFirst, Tells, LoadsFile};
 use desk::Command;
 use desk::Outcome;
 use desk::start::start;
 use line::lent;
 use line::lent::at_most;
 use line::out;
+use line_file::Request;
+use line_file::requested;
 
 // The desk before the first line, in a marks buffer that is longer than its marks.
 pub fn fresh(
@@ -61,6 +63,42 @@ pub fn tell(
         &mut marks[0..m],
     );
     answered(command, outcome, out, at)
+}
+
+// `load-stl S PATH`: the desk is told to load the corners of a file. Where the reader refuses the file, the desk is not asked.
+pub fn load_file(
+    line: &[u8],
+    numbers: &mut [i32],
+    lent: &[usize; lent::COUNTS],
+    shapes: &mut [i32; limits::SHAPES_LENGTH],
+    places: &mut [i32; limits::PLACES_LENGTH],
+    rows: &mut [u8; limits::ROWS],
+    book: &mut [u32; limits::BOOK],
+    marks: &mut [u16],
+    out: &mut [u8],
+    at: usize,
+) -> usize
+    ensures { λ _. ⌜ LoadsFile (now (line .entry)) (min (getD (now (lent .entry)) 1 0) (length (now (marks .entry))))
+        (deskOf (now (shapes .entry)) (now (places .entry)) (now (rows .entry)) (now (book .entry)) (now (marks .entry)))
+        (deskOf (now (shapes .exit)) (now (places .exit)) (now (rows .exit)) (now (book .exit)) (now (marks .exit))) ⌝ }
+{
+    match requested(line, numbers) {
+        Request::Load(shape, count) => tell(
+            Command::Load(shape),
+            count,
+            numbers,
+            lent,
+            shapes,
+            places,
+            rows,
+            book,
+            marks,
+            out,
+            at,
+        ),
+        Request::Refused(number) => out::refused(out, at, number),
+        Request::Bad => out::wrong(out, at),
+    }
 }
 
 // The corner list of a load: the line's numbers behind the first.

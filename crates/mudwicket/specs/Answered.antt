@@ -7,9 +7,9 @@ use lib.IntN.{ℤ}
 use Rattle.desk_state.specs.Desk.{Desk}
 use Rattle.line_command.specs.Lines.{unknown, LineSays}
 use Rattle.line_command.specs.declared.Line.{Line}
-use Rattle.line_command.specs.declared.Line.the-variants.{Tell, Ask, Spoil, Other}
+use Rattle.line_command.specs.declared.Line.the-variants.{Tell, Ask, Spoil, LoadFile, Other}
 use Rattle.line_command.specs.declared.Other.the-variants.{Nothing as NothingSaid}
-use Rattle.line_tell.specs.Tells.{Tells}
+use Rattle.line_tell.specs.Tells.{Tells, LoadsFile}
 use Rattle.mudwicket.specs.declared.input.Arrival.{Arrival}
 use Rattle.mudwicket.specs.declared.input.Arrival.the-variants.{Nothing, Line as OneLine, TooLong, Unfinished, Last}
 
@@ -21,15 +21,16 @@ CommandIn OneLine line room exit c = LineSays line room exit c
 CommandIn Unfinished line room exit c = LineSays line room exit c
 CommandIn Last line room exit c = LineSays line room exit c
 
--- the numbers of the line, and as many marks as are lent
-abbrev pub ByLine : Line → List ℤ → ℕ → Desk → Desk → Type 0
-ByLine (Tell command count) numbers m before after = Tells command count numbers m before after
-ByLine (Ask asked) numbers m before after = after ≡ before
-ByLine (Spoil cell) numbers m before after = Unit {0}
-ByLine (Other other) numbers m before after = after ≡ before
+-- the line, its numbers, and as many marks as are lent
+abbrev pub ByLine : Line → List ℕ → List ℤ → ℕ → Desk → Desk → Type 0
+ByLine (Tell command count) line numbers m before after = Tells command count numbers m before after
+ByLine (Ask asked) line numbers m before after = after ≡ before
+ByLine (Spoil cell) line numbers m before after = Unit {0}
+ByLine LoadFile line numbers m before after = LoadsFile line m before after
+ByLine (Other other) line numbers m before after = after ≡ before
 
 pub record Answered (arrival : Arrival) (line : List ℕ) (room : List ℤ) (m : ℕ) (before after : Desk) : Type 0 where
   pub says : Line
   pub numbers : List ℤ
   pub command : CommandIn arrival line room numbers says
-  pub does : ByLine says numbers m before after
+  pub does : ByLine says line numbers m before after

@@ -13,8 +13,10 @@ use line_command::Other;
 use line_command::says;
 use line_read::floats;
 use line_read::lists;
+use line_read::stl;
 use line_read::texts;
 use line_spoil::spoil;
+use line_tell::load_file;
 use line_tell::tell;
 
 // Puts the answer to what a round found, and hands back the next place.
@@ -52,6 +54,18 @@ pub fn answer(
         ),
         Line::Ask(a) => asked::ask(a, texts, lent, shapes, places, rows, book, marks, out, at),
         Line::Spoil(cell) => spoil(cell, shapes, places, rows, book, marks, out, at),
+        Line::LoadFile => load_file(
+            line,
+            numbers,
+            lent,
+            shapes,
+            places,
+            rows,
+            book,
+            marks,
+            out,
+            at,
+        ),
         Line::Other(o) => other(o, line, out, at, texts, numbers, lent),
     }
 }
@@ -85,6 +99,8 @@ fn other(
         Other::Scan => floats::scan(line, end, out, at),
         Other::Show => floats::show(line, end, out, at),
         Other::Blank => floats::blank(line, end, lent, numbers, out, at),
+        Other::Stl => stl::stl(line, end, texts, lent, numbers, out, at),
+        Other::Triangle => stl::triangle(line, end, texts, out, at),
         Other::Room => lent::room(line, end, lent, out, at),
         Other::Lend => lent::lend(line, end, lent, out, at),
         Other::Nothing => at,

@@ -11,7 +11,7 @@ use lib.IntN.{ℤ, pos, negsuc, natAbs, _+ℤ_}
 use lib.ListN.{length, length-replicate, length-set}
 use lib.Seq.{length-sets}
 use Rattle.limits.specs.Limits
-use Rattle.limits.specs.Lowest.{Refusal, Lowest}
+use Rattle.limits.specs.Lowest.{Refusal, Lowest, Positive}
 use Rattle.limits.specs.Numbered.{Numbered}
 use Rattle.space.specs.Lists.{LengthFits}
 use Rattle.pieces.specs.declared.placement.Placement.{Placement}
@@ -21,7 +21,6 @@ use Rattle.rows.specs.Rows.{PairOf, rowAt, Handled}
 use Rattle.ints.specs.Cases.{by-same, by-less}
 use Rattle.rows.specs.Handling.{pair-stayed, handled-right, handled-other}
 use Rattle.rows_tally.specs.Counting.{filled-at}
-use Rattle.desk_refusals.specs.Asked.{Positive}
 use Rattle.desk_state.specs.Desk.{Desk, InOrder, putAt, emptiedAt, loadedAt}
 use Rattle.rows_right.specs.Right.{RowRight}
 use Rattle.rows_right.specs.RowLaws.{right-same}

@@ -1,6 +1,6 @@
 -- What a float means in steps: document 01, "Lengths that arrive as text or as floats", in the logic's account of IEEE 754 (`lib.Ieee`).
 -- A float is `nan` (not a number), an infinity `inf s`, or `fin s m e`: m times 2 to the e, negative where s is true; 2 to the e is the fraction `up e / down e`.
-use Prim.Native.Nat.{ℕ, _*_, _<_}
+use Prim.Native.Nat.{ℕ, _*_, _/_, _<_}
 use mathlib.Core.Path.{_≡_}
 use mathlib.Core.Bool.{Bool, true, false}
 use mathlib.Core.List.{List, [], _∷_}
@@ -19,6 +19,12 @@ abbrev pub InSteps : Float → ℤ → Type 0
 InSteps nan z = ⊥
 InSteps (inf s) z = ⊥
 InSteps (fin s m e) z = withSign s (m * up e * Limits.steps) ≡ z *ℤ pos (down e)
+
+-- the steps of a float that is a whole number of them (TakenWhen, `steps-are`): its value times 64. Any other has none, and is refused before it is asked
+unfoldable pub stepsOf : Float → ℤ
+stepsOf nan = pos 0
+stepsOf (inf s) = pos 0
+stepsOf (fin s m e) = withSign s (m * up e * Limits.steps / down e)
 
 -- 16: "a float is infinite or not a number"
 abbrev pub NotFinite : Float → Type 0

@@ -70,3 +70,10 @@ together of on = joined 0 (at Limits.notFinite NotFinite ∷ at Limits.notWhole 
   where
     at : ℕ → (Float → Type 0) → OfBoth
     at n C = record { number = n; one = of C; other = on C }
+
+-- where the same floats are spoken of, the same refusal is the lowest
+pub same-floats : (of on : (Float → Type 0) → Type 0) → ((C : Float → Type 0) → of C → on C) → ((C : Float → Type 0) → on C → of C) → {n : ℕ} → Lowest (refusals of) n → Lowest (refusals on) n
+same-floats of on f g (inl p) = inl (f NotFinite (p .0), p .1)
+same-floats of on f g (inr (a, inl p)) = inr ((λ u. a (g NotFinite u)), inl (f NotWhole (p .0), p .1))
+same-floats of on f g (inr (a, inr (b, inl p))) = inr ((λ u. a (g NotFinite u)), inr ((λ u. b (g NotWhole u)), inl (f Beyond (p .0), p .1)))
+same-floats of on f g (inr (a, inr (b, inr p))) = inr ((λ u. a (g NotFinite u)), inr ((λ u. b (g NotWhole u)), inr ((λ u. p .0 (g Beyond u)), p .1)))

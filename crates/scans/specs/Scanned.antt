@@ -6,7 +6,7 @@ use mathlib.Core.Bool.{Bool, cond}
 use mathlib.Core.Logic.{_⊎_}
 use lib.Dec.{eqb}
 use lib.IntN.{pos}
-use lib.Ieee.{Float}
+use lib.Ieee.{Float, binary32, ofBits}
 use Rattle.limits.specs.Limits
 use Rattle.limits.specs.Lowest.{Lowest}
 use Rattle.scans.specs.Floats.{withSign, InSteps, refusals}
@@ -23,6 +23,10 @@ pub record ScannedAs (x : Float) (r : Scan) : Type 0 where
 -- "a record of three 32-bit floats": C is so of one of them
 abbrev pub One : (Float → Type 0) → Point → Type 0
 One C p = C (p .x) ⊎ (C (p .y) ⊎ C (p .z))
+
+-- the point whose floats have these bit patterns
+abbrev pub ofPatterns : ℕ → ℕ → ℕ → Point
+ofPatterns x y z = record { x = ofBits binary32 x; y = ofBits binary32 y; z = ofBits binary32 z }
 
 -- what the point p may give
 pub record PointAs (p : Point) (r : Scanned) : Type 0 where

@@ -3,7 +3,7 @@
 ghost use Prim.Native.Nat.{_/_, _%_, _≤_, _<_};
 ghost use mathlib.Core.Path.{_≡_};
 ghost use lib.Ieee.{binary32, ofBits, ofFields};
-ghost use Rattle.scans.specs.Scanned.{TakenAs, lowerOf, ScannedAs, PointAs};
+ghost use Rattle.scans.specs.Scanned.{TakenAs, lowerOf, ScannedAs, ofPatterns, PointAs};
 ghost use Rattle.scans.specs.Shown.{PatternOf, ShownAs};
 
 // A scanned point, in millimetres.
@@ -148,7 +148,7 @@ pub fn scan_float(x: f32) -> Scan
 }
 
 // The lower of two refusals, where 0 says that none applies.
-fn lower(a: u8, b: u8) -> u8
+pub fn lower(a: u8, b: u8) -> u8
     ensures { λ r. ⌜ r ≡ lowerOf a b ⌝ }
 {
     if a == limits::DONE {
@@ -160,12 +160,13 @@ fn lower(a: u8, b: u8) -> u8
     if a < b { a } else { b }
 }
 
-pub fn scan_point(point: Point) -> Scanned
-    ensures { λ r. ⌜ PointAs point r ⌝ }
+// Three floats by their bit patterns, as a file has a corner.
+pub fn scan_patterns(x: u32, y: u32, z: u32) -> Scanned
+    ensures { λ r. ⌜ PointAs (ofPatterns x y z) r ⌝ }
 {
-    let a = scan_float(point.x);
-    let b = scan_float(point.y);
-    let c = scan_float(point.z);
+    let a = scan_pattern(x);
+    let b = scan_pattern(y);
+    let c = scan_pattern(z);
     let number = lower(a.number, lower(b.number, c.number));
     if number == limits::DONE {
         return Scanned {
@@ -181,6 +182,15 @@ pub fn scan_point(point: Point) -> Scanned
         y: 0,
         z: 0,
     }
+}
+
+pub fn scan_point(point: Point) -> Scanned
+    ensures { λ r. ⌜ PointAs point r ⌝ }
+{
+    let x = pattern(point.x);
+    let y = pattern(point.y);
+    let z = pattern(point.z);
+    scan_patterns(x, y, z)
 }
 
 // The millimetres to show for steps within the range of a placed corner: a division that never rounds.

@@ -26,7 +26,7 @@ fn whole(dice: &mut Dice, reach: Number) -> u32 {
 }
 
 /// A pattern that is a whole number of steps, mostly of a good size.
-fn good(dice: &mut Dice) -> u32 {
+pub fn good(dice: &mut Dice) -> u32 {
     match dice.below(6) {
         0 => dice.pick(&[0x4480_0000, 0xc480_0000, 0x0000_0000, 0x8000_0000]),
         1 => whole(dice, 65_536),
@@ -37,7 +37,7 @@ fn good(dice: &mut Dice) -> u32 {
 }
 
 /// A pattern of any class.
-fn any(dice: &mut Dice) -> u32 {
+pub fn any(dice: &mut Dice) -> u32 {
     let noise = dice.bits() as u32;
     match dice.below(12) {
         0 => 0x7f80_0000 | noise,

@@ -6,9 +6,11 @@ mod dice;
 mod floats;
 mod lists;
 mod refusals;
+pub mod scanner;
 mod script;
 mod shapes;
 mod spoils;
+mod stl;
 mod texts;
 
 use dice::Dice;
@@ -22,6 +24,7 @@ pub enum Kind {
     Refusals,
     Spoils,
     Floats,
+    Stl,
     Text,
     Menus,
     Lines,
@@ -29,7 +32,7 @@ pub enum Kind {
 }
 
 impl Kind {
-    pub const ALL: [Kind; 10] = [
+    pub const ALL: [Kind; 11] = [
         Kind::All,
         Kind::Lists,
         Kind::Desk,
@@ -40,6 +43,7 @@ impl Kind {
         Kind::Menus,
         Kind::Lines,
         Kind::Full,
+        Kind::Stl,
     ];
 
     pub fn word(self) -> &'static str {
@@ -50,6 +54,7 @@ impl Kind {
             Kind::Refusals => "refusals",
             Kind::Spoils => "spoils",
             Kind::Floats => "floats",
+            Kind::Stl => "stl",
             Kind::Text => "text",
             Kind::Menus => "menus",
             Kind::Lines => "lines",
@@ -59,7 +64,7 @@ impl Kind {
 }
 
 /// How often `all` turns to each kind.
-const SHARES: [Kind; 14] = [
+const SHARES: [Kind; 15] = [
     Kind::Desk,
     Kind::Desk,
     Kind::Desk,
@@ -71,6 +76,7 @@ const SHARES: [Kind; 14] = [
     Kind::Spoils,
     Kind::Spoils,
     Kind::Floats,
+    Kind::Stl,
     Kind::Text,
     Kind::Menus,
     Kind::Lines,
@@ -104,6 +110,7 @@ fn write_stretch(kind: Kind, script: &mut Script, dice: &mut Dice) {
         Kind::Refusals => refusals::stretch(script, dice),
         Kind::Spoils => spoils::stretch(script, dice),
         Kind::Floats => floats::stretch(script, dice),
+        Kind::Stl => stl::stretch(script, dice),
         Kind::Text => texts::lengths(script, dice),
         Kind::Menus => texts::menus(script, dice),
         Kind::Lines => texts::lines(script, dice),

@@ -7,10 +7,11 @@ use native.Mathlib.Omega.{arith}
 use lib.IntN.{natAbs}
 use Rattle.limits.specs.Limits
 use Rattle.limits.specs.Lowest.{_when_}
+use Rattle.limits.specs.LowestLaws.{positive, lowest-first}
 use Rattle.limits.specs.Numbered.{Numbered}
 use Rattle.pieces.specs.Pieces.{Loaded, storeOf}
 use Rattle.pieces.specs.IndexLaws.{cell-indexed}
-use Rattle.desk_refusals.specs.Asked.{asked-refused, asked-passed, positive, lowest-first}
+use Rattle.desk_refusals.specs.Asked.{asked-refused, asked-passed}
 use Rattle.desk_load.specs.Loading.{cornerRefusals, CornersAsked}
 use borrow.Author.Needs.{needs}
 use Rattle.desk_load.proofs.load_refusal.Statement.{statement}

@@ -21,19 +21,19 @@ named : (c : tie.After-name-of) → NameOf (c .before .before .before .before .a
 unfolding behind partsOf decLt ℕ-discrete
 named c = c .name-of .ensures
 
-other : (c : tie.After-name-of) (k : ℕ) {l : Line} → c .name-of .result ≡ k → k < 8 → l ≡ valueOf otherWords unknown k
+other : (c : tie.After-name-of) (k : ℕ) {l : Line} → c .name-of .result ≡ k → k < 11 → l ≡ valueOf otherWords unknown k
     → Finds (c .before .before .before .before .args .word .now) otherWords (λ _. ⊥) l
 other c k e h f =
     let w = c .before .before .before .before .args .word .now in
     rw f (named-in w otherWords (spoilWord ∷ []) (λ _. ⊥) unknown k (subst (NameOf w (namesOf otherWords ++ spoilWord ∷ [])) e (named c)) h)
 
-past : (c : tie.After-name-of) (m : ℕ) → c .name-of .result ≡ 8 + m → let w = c .before .before .before .before .args .word .now in NotIn w otherWords × NameOf w (spoilWord ∷ []) m
+past : (c : tie.After-name-of) (m : ℕ) → c .name-of .result ≡ 11 + m → let w = c .before .before .before .before .args .word .now in NotIn w otherWords × NameOf w (spoilWord ∷ []) m
 past c m e = named-past (c .before .before .before .before .args .word .now) otherWords (spoilWord ∷ []) (c .name-of .result) m e (named c)
 
-beyond : (c : tie.After-name-of) → 9 ≤ c .name-of .result → let w = c .before .before .before .before .args .word .now in NotIn w otherWords × (w ≡ spoilWord → ⊥)
+beyond : (c : tie.After-name-of) → 12 ≤ c .name-of .result → let w = c .before .before .before .before .args .word .now in NotIn w otherWords × (w ≡ spoilWord → ⊥)
 beyond c h =
-    let k = c .name-of .result - 8 in
-    let e : c .name-of .result ≡ 8 + k = omega (arith, h) in
+    let k = c .name-of .result - 11 in
+    let e : c .name-of .result ≡ 11 + k = omega (arith, h) in
     let z : 0 < k = omega (arith, h) in
     let r = past c k e in
     (r .0, name-not (c .before .before .before .before .args .word .now) spoilWord [] k z (r .1))
@@ -74,23 +74,32 @@ returns-7 c = inl (refl, other (c .before) 6 (c .match .keys7) (omega arith) ref
 returns-8 : tie.Need-returns-8
 returns-8 c = inl (refl, other (c .before) 7 (c .match .keys8) (omega arith) refl)
 
+returns-9 : tie.Need-returns-9
+returns-9 c = inl (refl, other (c .before) 8 (c .match .keys9) (omega arith) refl)
+
+returns-10 : tie.Need-returns-10
+returns-10 c = inl (refl, other (c .before) 9 (c .match .keys10) (omega arith) refl)
+
+returns-11 : tie.Need-returns-11
+returns-11 c = inl (refl, other (c .before) 10 (c .match .keys11) (omega arith) refl)
+
 same-length : tie.Need-same-length
 same-length c = search needs
 
-returns-9 : tie.Need-returns-9
-returns-9 c =
+returns-12 : tie.Need-returns-12
+returns-12 c =
     let m = c .before .before .before in
-    let r = past (m .before) 0 (m .match .keys9) in
+    let r = past (m .before) 0 (m .match .keys12) in
     let a = m .before .before .before .before .before .args in
     inr (r .0, inl (name-zero (a .word .now) spoilWord [] (r .1), (c .before .cell-of .result, c .before .cell-of .ensures, refl)))
 
 same-length-2 : tie.Need-same-length-2
 same-length-2 c = search needs
 
-returns-10 : tie.Need-returns-10
-returns-10 c =
+returns-13 : tie.Need-returns-13
+returns-13 c =
     let m = c .before .before .before in
-    let r = beyond (m .before) (none-below (m .before .name-of .result) 9 (m .match .rest)) in
+    let r = beyond (m .before) (none-below (m .before .name-of .result) 12 (m .match .rest)) in
     inr (r .0, inr (r .1, c .before .of-desk .ensures))
 
 pub of-word-spec : {M : Type 1} → statement M
@@ -109,7 +118,10 @@ of-word-spec =
     returns-6
     returns-7
     returns-8
-    same-length
     returns-9
+    returns-10
+    returns-11
+    same-length
+    returns-12
     same-length-2
-    returns-10)
+    returns-13)

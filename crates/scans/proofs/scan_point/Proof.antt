@@ -1,94 +1,37 @@
--- `scan_point` meets its contract: the lower of three numbers is the lowest refusal of the three floats together (specs/Lower).
+-- `scan_point` meets its contract: each pattern is read as the float that it was written for.
 use borrow.Author.Needs.{needs}
-use Prim.Native.Nat.{ℕ}
-use mathlib.Core.Path.{_≡_, _∙_, sym, ap, refl, subst}
-use mathlib.Core.Logic.{_⊎_}
-use lib.IntN.{pos}
-use mir.ValLaws.{toZ-ofZ}
-use mir.Syntax.{w32}
-use Rattle.limits.specs.Lowest.{Lowest}
-use Rattle.scans.specs.declared.Scan.{Scan}
+use mathlib.Core.Path.{subst}
 use Rattle.scans.specs.declared.Point.{Point}
-use Rattle.scans.specs.Lower.{together, lower-none}
-use Rattle.scans.specs.Scanned.{ScannedAs, One, PointAs, lowerOf}
-use Rattle.scans.specs.Floats.{refusals}
+use Rattle.scans.specs.Scanned.{PointAs}
 use Rattle.scans.proofs.scan_point.Statement.{statement}
 use Rattle.scans.proofs.scan_point.Tie as tie
 
--- what the floats a, b and c of a point gave, put together
-module _ (p : Point) (a b c : Scan) (ha : ScannedAs (p .x) a) (hb : ScannedAs (p .y) b) (hc : ScannedAs (p .z) c) (n : ℕ) (e : n ≡ lowerOf (a .number) (lowerOf (b .number) (c .number))) where
-  lowest : Lowest (refusals (λ C. One C p)) n
-  lowest =
-      subst (Lowest (refusals (λ C. One C p))) (sym e)
-      (together (λ C. C (p .x)) (λ C. C (p .y) ⊎ C (p .z)) (a .number) (lowerOf (b .number) (c .number)) (ha .number)
-      (together (λ C. C (p .y)) (λ C. C (p .z)) (b .number) (c .number) (hb .number) (hc .number)))
+pattern-requires : tie.Need-pattern-requires
+pattern-requires c κs = search needs
 
-  all-taken : n ≡ 0 → PointAs p (record { number = 0; x = a .steps; y = b .steps; z = c .steps })
-  all-taken z =
-      let u = lower-none (a .number) (lowerOf (b .number) (c .number)) (sym e ∙ z) in
-      let v = lower-none (b .number) (c .number) (u .1) in
-      record {
-        number = subst (Lowest (refusals (λ C. One C p))) z lowest;
-        steps = λ _. (ha .steps (u .0), hb .steps (v .0), hc .steps (v .1));
-        zero = λ f. absurd (f refl);
-      }
+pattern-requires-2 : tie.Need-pattern-requires-2
+pattern-requires-2 c κs = search needs
 
-  one-refused : (n ≡ 0 → ⊥) → PointAs p (record { number = n; x = pos 0; y = pos 0; z = pos 0 })
-  one-refused f = record { number = lowest; steps = λ z. absurd (f z); zero = λ _. (refl, refl, refl) }
+pattern-requires-3 : tie.Need-pattern-requires-3
+pattern-requires-3 c κs = search needs
 
--- the number that the two calls of `lower` make
-number-of : (c : tie.After-lower2)
-    → c .lower2 .result ≡ lowerOf (c .before .before .before .before .scan-float .result .number)
-    (lowerOf (c .before .before .before .scan-float2 .result .number) (c .before .before .scan-float3 .result .number))
-number-of c = c .lower2 .ensures ∙ ap (lowerOf (c .before .before .before .before .scan-float .result .number)) (c .before .lower .ensures)
-
-scan-float-requires : tie.Need-scan-float-requires
-scan-float-requires c κs = search needs
-
-scan-float-requires-2 : tie.Need-scan-float-requires-2
-scan-float-requires-2 c κs = search needs
-
-scan-float-requires-3 : tie.Need-scan-float-requires-3
-scan-float-requires-3 c κs = search needs
-
-lower-requires : tie.Need-lower-requires
-lower-requires c κs = search needs
-
-lower-requires-2 : tie.Need-lower-requires-2
-lower-requires-2 c κs = search needs
+scan-patterns-requires : tie.Need-scan-patterns-requires
+scan-patterns-requires c κs = search needs
 
 returns : tie.Need-returns
 returns c =
-    let l = c .before .before .before .before in
-    let f3 = l .before .before in
-    let f2 = f3 .before in
-    let f1 = f2 .before in
-    rw (
-      toZ-ofZ w32 (f1 .scan-float .result .steps) (record { sfits = c .before .before .struct-told .given .1 .0 .1 }),
-      toZ-ofZ w32 (f2 .scan-float2 .result .steps)
-          (record { sfits = c .before .struct-told2 .given .1 .0 .1 }),
-      toZ-ofZ w32 (f3 .scan-float3 .result .steps) (record { sfits = c .struct-told3 .given .1 .0 .1 }),
-    )
-    (all-taken (f1 .before .args .point) (f1 .scan-float .result) (f2 .scan-float2 .result) (f3 .scan-float3 .result) (f1 .scan-float .ensures) (f2 .scan-float2 .ensures) (f3 .scan-float3 .ensures)
-    (l .lower2 .result) (number-of l) (c .before .before .before .if1 .taken))
-
-returns-2 : tie.Need-returns-2
-returns-2 c =
-    let l = c .before in
-    let f3 = l .before .before in
-    let f2 = f3 .before in
-    let f1 = f2 .before in
-    one-refused (f1 .before .args .point) (f1 .scan-float .result) (f2 .scan-float2 .result) (f3 .scan-float3 .result) (f1 .scan-float .ensures) (f2 .scan-float2 .ensures) (f3 .scan-float3 .ensures)
-    (l .lower2 .result) (number-of l) (c .if1 .left)
+    let p3 = c .before in
+    let p2 = p3 .before in
+    let p1 = p2 .before in
+    subst (λ (p : Point). PointAs p (c .scan-patterns .result))
+    (λ i. record { x = p1 .pattern .ensures .read i; y = p2 .pattern2 .ensures .read i; z = p3 .pattern3 .ensures .read i }) (c .scan-patterns .ensures)
 
 pub scan-point-spec : {M : Type 1} → statement M
 scan-point-spec =
     tie.close
     (tie.spec
-    scan-float-requires
-    scan-float-requires-2
-    scan-float-requires-3
-    lower-requires
-    lower-requires-2
-    returns
-    returns-2)
+    pattern-requires
+    pattern-requires-2
+    pattern-requires-3
+    scan-patterns-requires
+    returns)

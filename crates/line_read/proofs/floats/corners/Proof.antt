@@ -1,16 +1,14 @@
 -- `line_read::floats::corners` stays in range: as many numbers stand in the room as were counted.
 use borrow.Author.Needs.{needs}
-use Prim.Native.Nat.{ℕ, _≤_, _-_}
+use Prim.Native.Nat.{ℕ, _≤_}
 use mathlib.Core.List.{List}
 use mathlib.Core.Logic.{inl, inr}
 use mathlib.Core.Path.{_≡_}
 use native.Mathlib.Omega.{arith}
 use lib.IntN.{ℤ}
-use lib.ListN.{length, length-take}
+use lib.ListN.{length}
 use Rattle.scans.specs.declared.Point.{Point}
-use Rattle.blanks.specs.Blanks.{WrittenAs, needed}
-use Rattle.blanks.specs.declared.Blank.{Blank}
-use Rattle.blanks.specs.declared.Blank.the-variants.{Box, Wedge, Corner}
+use Rattle.blanks.specs.Blanks.{WrittenAs}
 use Rattle.blanks.specs.declared.Written.{Written}
 use Rattle.ints.specs.Order.{lt-or-ge}
 use Rattle.line_read.proofs.floats.corners.Statement.{statement}
@@ -21,11 +19,6 @@ within {n = n} {before = before} h e = elim (h .number) [
   | inl k ↦ absurd (omega (arith, e, k .1))
   | inr k ↦ elim (lt-or-ge (length before) n) [ inl l ↦ absurd (k .0 l) | inr l ↦ omega (arith, h .filled e .counted, l) ]
 ]
-
-few : (b : Blank) → needed b ≤ 24
-few (Box w d h) = omega arith
-few (Wedge w d h) = omega arith
-few (Corner w d h) = omega arith
 
 corners-requires : tie.Need-corners-requires
 corners-requires c κs = search needs
@@ -54,15 +47,7 @@ part-listed-end c =
     omega (arith, within (r .corners .ensures) (c .before .if1 .left), r .corners .kept .1 .0)
 
 listed-requires : tie.Need-listed-requires
-listed-requires c κs =
-    let r = c .before .before .before .before .before in
-    omega (
-      arith,
-      few (r .before .before .before .args .b),
-      r .corners .ensures .filled (c .before .before .before .if1 .left) .counted,
-      length-take (r .corners .result .count - 0)
-          (r .corners .last .1 .0),
-    )
+listed-requires c κs = search needs
 
 same-length-3 : tie.Need-same-length-3
 same-length-3 c = search needs

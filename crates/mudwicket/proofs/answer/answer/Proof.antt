@@ -2,7 +2,7 @@
 use Prim.Native.Nat.{min}
 use lib.ListN.{length, getD}
 use Rattle.desk_state.specs.Desk.{deskOf}
-use Rattle.mudwicket.specs.AnsweredLaws.{answered-told, answered-asked, answered-spoiled, answered-other}
+use Rattle.mudwicket.specs.AnsweredLaws.{answered-told, answered-asked, answered-spoiled, answered-file, answered-other}
 use borrow.Author.Needs.{needs}
 use Rattle.mudwicket.proofs.answer.answer.Statement.{statement}
 use Rattle.mudwicket.proofs.answer.answer.Tie as tie
@@ -27,6 +27,12 @@ enum-known-cell c = search needs
 
 spoil-requires : tie.Need-spoil-requires
 spoil-requires c κs = search needs
+
+enum-told : tie.Need-enum-told
+enum-told c = search needs
+
+load-file-requires : tie.Need-load-file-requires
+load-file-requires c κs = search needs
 
 enum-known-o : tie.Need-enum-known-o
 enum-known-o c = search needs
@@ -98,6 +104,21 @@ same-length-13 c = search needs
 
 returns-4 : tie.Need-returns-4
 returns-4 c =
+    let k = c .before .before .before .before .before .before .before .before .before .before .before .before .before .before in
+    let f = k .before .before .before in
+    answered-file (f .command-in .last .1 .1 .0) (f .command-in .ensures) (k .enum-told .given .1) (c .before .before .before .before .before .load-file .ensures)
+
+same-length-14 : tie.Need-same-length-14
+same-length-14 c = search needs
+
+same-length-15 : tie.Need-same-length-15
+same-length-15 c = search needs
+
+same-length-16 : tie.Need-same-length-16
+same-length-16 c = search needs
+
+returns-5 : tie.Need-returns-5
+returns-5 c =
     let k = c .before .before .before .before .before .before .before .before .before .before .before in
     let f = k .before .before .before in
     let a = f .before .before .before .before .before .before .args in
@@ -115,6 +136,8 @@ answer-spec =
     ask-requires
     enum-known-cell
     spoil-requires
+    enum-told
+    load-file-requires
     enum-known-o
     other-requires
     same-length
@@ -133,4 +156,8 @@ answer-spec =
     same-length-11
     same-length-12
     same-length-13
-    returns-4)
+    returns-4
+    same-length-14
+    same-length-15
+    same-length-16
+    returns-5)

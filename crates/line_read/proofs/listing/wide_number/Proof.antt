@@ -1,8 +1,8 @@
--- `line_read::floats::wide_number`: a number of 32 bits fits 64.
+-- `line_read::listing::wide_number`: a number of 32 bits fits 64.
 use borrow.Author.Needs.{needs}
 use Rattle.ints.specs.Bounds.{known, fits}
-use Rattle.line_read.proofs.floats.wide_number.Statement.{statement}
-use Rattle.line_read.proofs.floats.wide_number.Tie as tie
+use Rattle.line_read.proofs.listing.wide_number.Statement.{statement}
+use Rattle.line_read.proofs.listing.wide_number.Tie as tie
 
 cast-result : tie.Need-cast-result
 cast-result c = fits (search known depth 15) tt

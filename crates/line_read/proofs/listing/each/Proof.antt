@@ -1,10 +1,10 @@
--- `line_read::floats::each` stays in range and ends. The measure is what is left of the numbers.
+-- `line_read::listing::each` stays in range and ends. The measure is what is left of the numbers.
 use Prim.Native.Nat.{_≤_, _-_}
 use mathlib.Core.Path.{_≡_, refl, _∙_}
 use native.Mathlib.Omega.{arith}
 use lib.ListN.{length}
-use Rattle.line_read.proofs.floats.each.Statement.{statement}
-use Rattle.line_read.proofs.floats.each.Tie as tie
+use Rattle.line_read.proofs.listing.each.Statement.{statement}
+use Rattle.line_read.proofs.listing.each.Tie as tie
 
 abbrev Inv-loop : tie.InvT-loop
 Inv-loop numbers out₀ at next₀ i₀ out next i = (i ≤ length numbers) × (length out ≡ length out₀)
