@@ -152,7 +152,7 @@ room 23
 blank box 3f800000 40000000 40400000
 room 24
 blank box 3f800000 40000000 40400000
-room 8192
+room 32768
 # Menu lines: translated, empty, missing, missing in both.
 line 0 4c616465 4c6f6164
 line 0 0a53 4c6f61640a506c

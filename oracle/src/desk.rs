@@ -7,16 +7,19 @@ use crate::turns::{turned, TURNS};
 use crate::verdict::decide;
 
 pub const SHAPES: usize = 32;
-pub const PLACES: usize = 64;
-pub const CORNERS: usize = 32;
+/// Document 01 says 64 places and 32 corners; request W4 raised both.
+pub const PLACES: usize = 128;
+pub const CORNERS: usize = 64;
 /// A shape has its count of corners, then three numbers for each corner that it may have.
 pub const SHAPE_CELLS: usize = 1 + 3 * CORNERS;
 /// A place has its shape plus one, or 0, then its turn and the three numbers of its offset.
 pub const PLACE_CELLS: usize = 5;
 pub const NUMBER_LIMIT: Number = 65_536;
 pub const PLACED_LIMIT: Number = 131_072;
-pub const MARKS: usize = 384;
-pub const AXIS_MARKS: usize = 128;
+pub const AXIS_MARKS: usize = 2 * PLACES;
+pub const MARKS: usize = 3 * AXIS_MARKS;
+/// Of the marks buffer so many cells can be lent: some more than the desk wants.
+pub const MARK_CELLS: usize = MARKS + 16;
 pub const NO_MARK: Number = 65_535;
 pub const NO_ROW: Number = 255;
 pub const TALLIES: usize = 4;
@@ -56,7 +59,7 @@ impl Part {
             Part::Places => PLACES * PLACE_CELLS,
             Part::Rows => PLACES * PLACES,
             Part::Book => 16,
-            Part::Marks => 400,
+            Part::Marks => MARK_CELLS,
         }
     }
 

@@ -7,7 +7,7 @@ use crate::lengths::digits;
 use crate::point::Number;
 
 pub const LONGEST_LINE: usize = 16_384;
-pub const ROOM_CELLS: usize = 8_192;
+pub const ROOM_CELLS: usize = 32_768;
 
 #[derive(Debug, PartialEq, Eq)]
 pub enum Command {
@@ -294,9 +294,9 @@ mod tests {
             b"line 0  6b",
             b"lists 3 0 0 0 -1",
             b"lists 3 0 0 3 0 0 0",
-            b"spoil marks 400 0",
+            b"spoil marks 784 0",
             b"spoil rows 0 256",
-            b"lend 401",
+            b"lend 785",
         ];
         for line in lines {
             assert_eq!(read(line), None, "{}", String::from_utf8_lossy(line));

@@ -201,7 +201,8 @@ fn certificates_for_small_lists() {
 fn certificates_for_larger_lists() {
     let mut chance = Chance(11);
     certify_many(&mut chance, 100, 12, 60);
-    certify_many(&mut chance, 1000, 32, 4);
+    certify_many(&mut chance, 1000, 32, 3);
+    certify_many(&mut chance, 1000, 64, 1);
 }
 
 /// Some minutes: `cargo test --release --offline -- --ignored`.
@@ -214,6 +215,7 @@ fn certificates_for_very_many_lists() {
         certify_many(&mut chance, reach, 12, 2_000);
     }
     certify_many(&mut chance, 1000, 32, 100);
+    certify_many(&mut chance, 1000, 64, 20);
 }
 
 /// Directions and weights keep their bounds at the very ends of the range.

@@ -20,7 +20,7 @@ use Rattle.bench.specs.Table.{placed, Between}
 use Rattle.bench.specs.Holding.{placed-length, isApart, isMixed, apart-row, verdict-row}
 use Rattle.bench.specs.Standing.{Loadable, two-stand}
 
--- ---- what may be asked about: 1 to 32 corners, and no number of a placed one beyond ±131,072
+-- ---- what may be asked about: 1 to 64 corners, and no number of a placed one beyond ±131,072
 abbrev pub isNear : ℕ → List ℤ → Bool
 isNear reach s = below (λ k. leb (natAbs (getD s k (pos 0))) reach) (length s)
 

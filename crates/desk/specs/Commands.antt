@@ -64,7 +64,8 @@ startRefusals d = Limits.disorder when (length (d .marks) ≡ Limits.marks → �
 abbrev pub Started : Desk → Desk → Outcome → Type 0
 Started before after r = Commanded (startRefusals before) (λ count. (after ≡ freshDesk) × (count ≡ 0)) before after r
 
--- ---- "Load a shape at a number": 1, 2, 3 "a corner list's length isn't 3 × (1 to 32)", 4 "a shape's corner number is beyond ±65,536", 5 "load: number already loaded"
+-- ---- "Load a shape at a number": 1, 2, 3 "a corner list's length isn't 3 × (1 to 32)" (to 64 since W4), 4 "a shape's corner number is beyond ±65,536",
+-- 5 "load: number already loaded"
 abbrev pub newShapeRefusals : Store → ℤ → List ℤ → List Refusal
 newShapeRefusals d shape numbers =
     Limits.shapeNumber when (Numbered Limits.shapes shape → ⊥)
@@ -96,10 +97,11 @@ abbrev pub movedTo : List ℤ → ℕ → ℤ → Offset → Placement
 movedTo places p turn o = record { shape = heldIn places p -ℤ pos 1; turn = turn; x = o .x; y = o .y; z = o .z }
 
 -- "A move reports a count: over the three axes, the number of pairs (mark of the moved piece, mark of another piece) whose order before and after differs. It is at most 756."
+-- W4: "the move count's limit becomes 1,524"
 pub record MovedBy (before : Desk) (p : ℕ) (turn : ℤ) (o : Offset) (after : Desk) (count : ℕ) : Type 0 where
   pub put : PutDown before p (movedTo (before .store .places) p turn o) after
   pub counted : count ≡ changedMarks (axesOf (before .store)) (axesOf (after .store)) p
-  pub most : count ≤ 12 * (Limits.places - 1)
+  pub most : count ≤ Limits.moveMost
 
 abbrev pub Moves : Desk → ℤ → ℤ → Offset → Desk → Outcome → Type 0
 Moves before place turn o after r = Commanded (moveRefusals before place turn o) (MovedBy before (natAbs place) turn o after) before after r

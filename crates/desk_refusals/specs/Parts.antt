@@ -14,7 +14,7 @@ use Rattle.desk_state.specs.Desk.{OffsetFits}
 abbrev pub shapeRefusals : Store → ℤ → List Refusal
 shapeRefusals d shape = Limits.shapeNumber when (Numbered Limits.shapes shape → ⊥) ∷ Limits.shapeMissing when (Loaded d (natAbs shape) → ⊥) ∷ []
 
--- 7 "a place number not 0 to 63", 8 "place: already taken"
+-- 7 "a place number not 0 to 63" (to 127 since W4), 8 "place: already taken"
 abbrev pub emptyRefusals : List ℤ → ℤ → List Refusal
 emptyRefusals places place = Limits.placeNumber when (Numbered Limits.places place → ⊥) ∷ Limits.placeTaken when (Taken places (natAbs place)) ∷ []
 

@@ -1,5 +1,7 @@
+pub mod Bytes
 pub mod Decides
 pub mod DecidesLaws
+pub mod Kiln
 pub mod Limits
 pub mod Lowest
 pub mod LowestLaws

@@ -1,17 +1,29 @@
 -- The numbers of document 01 that contracts cite, once. src/lib.rt has the same ones for code, and its three functions tie them together.
 -- A request that changes a number changes it here and there, and nowhere else.
-use Prim.Native.Nat.{ℕ, _+_, _*_}
+--
+--   what                     document 01             since W4
+--   places                   "0 to 63"               128: 0 to 127, and refusal 7 for any other
+--   corners of a shape       "1 to 32"               1 to 64, and refusal 3 for any other
+--   marks                    "384", "128 an axis"    768, 256 an axis
+--   parts of the marks       "at 128 and 256"        start at 256 and 512
+--   a move's count at most   "756"                   1,524
+--
+-- Only places and corners are written out; the rest is worked out of them, and Kiln holds it to this table.
+use Prim.Native.Nat.{ℕ, _+_, _*_, _-_}
 
--- "Shapes are numbered 0 to 31." "A shape is a list of 1 to 32 corner points." "Places are numbered 0 to 63." "a turn 0 to 23"
+-- "Shapes are numbered 0 to 31."
 abbrev pub shapes : ℕ
 shapes = 32
 
+-- "A shape is a list of 1 to 32 corner points"; W4: "corners per shape to 64"
 abbrev pub corners : ℕ
-corners = 32
+corners = 64
 
+-- "Places are numbered 0 to 63."; W4: "Raise places to 128"
 abbrev pub places : ℕ
-places = 64
+places = 128
 
+-- "a turn 0 to 23"
 abbrev pub turns : ℕ
 turns = 24
 
@@ -35,12 +47,16 @@ placesLength = places * placeCells
 abbrev pub rows : ℕ
 rows = places * places
 
--- "one lent buffer of 384 16-bit numbers, 128 an axis"
+-- "one lent buffer of 384 16-bit numbers, 128 an axis"; W4: "The marks buffer becomes 768 numbers"
 abbrev pub axisMarks : ℕ
 axisMarks = 2 * places
 
 abbrev pub marks : ℕ
 marks = 3 * axisMarks
+
+-- the two marks of the moved piece against the two of each other piece, on three axes: "It is at most 756."; W4: "the move count's limit becomes 1,524"
+abbrev pub moveMost : ℕ
+moveMost = 12 * (places - 1)
 
 abbrev pub book : ℕ
 book = 16

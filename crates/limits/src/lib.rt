@@ -1,14 +1,14 @@
-// Every number that document 01 fixes and a request may change or add to, once: sizes, ranges, and the refusals by name.
+// Every number that document 01 fixes and a request may change or add to, once: sizes (W4's), ranges, and the refusals by name.
 // specs/ has the same numbers for contracts; the four `tied_` functions below tie the two together.
 ghost use mathlib.Core.Path.{_≡_};
 ghost use Rattle.limits.specs.Tied.{theSizes, theVerdicts, theRanges, theRefusals};
 
-// How many there are.
+// How many there are: document 01's 32 corners and 64 places are W4's 64 and 128.
 pub const SHAPES: usize = 32;
 
-pub const CORNERS: usize = 32;
+pub const CORNERS: usize = 64;
 
-pub const PLACES: usize = 64;
+pub const PLACES: usize = 128;
 
 pub const TURNS: usize = 24;
 

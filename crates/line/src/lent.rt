@@ -1,8 +1,9 @@
 // What is kept from line to line: how much of a lent buffer a command sees.
 // `room N` says how many cells `contacts` and `blank` are lent, and `lend N` how many cells of the marks buffer the desk is.
 ghost use mathlib.Core.Path.{_≡_};
-ghost use Prim.Native.Nat.{_≤_, min};
+ghost use Prim.Native.Nat.{_+_, _*_, _≤_, min};
 ghost use lib.ListN.{length};
+ghost use Rattle.limits.specs.Limits;
 use crate::out;
 use crate::parts::Index;
 use crate::parts::only_index;
@@ -10,10 +11,11 @@ use crate::parts::only_index;
 // "A line of more than 16,384 bytes gets one `?`" (docs/COMMANDS.md).
 pub const MOST_BYTES: usize = 16384;
 
-// The most cells of each buffer. A number of a line takes a digit and a space.
-const MOST_ROOM: usize = MOST_BYTES / 2;
+// The most cells of each buffer. Three bytes for each of the most rows fit, and all numbers of a line, each a digit and a space; and some
+// more marks than a desk has, so that a buffer that is too long can be lent as well.
+const MOST_ROOM: usize = 2 * limits::ROWS;
 
-const MOST_MARKS: usize = 400;
+const MOST_MARKS: usize = limits::MARKS + 16;
 
 // How many cells `lent` has, and which of them says how many of each buffer are lent.
 pub const COUNTS: usize = 2;
@@ -29,14 +31,14 @@ pub fn start() -> [usize; COUNTS] {
 
 // The numbers of which so many are lent, and those of a line.
 pub fn numbers() -> [i32; MOST_ROOM]
-    ensures { λ r. ⌜ 8192 ≡ length r ⌝ }
+    ensures { λ r. ⌜ 2 * Limits.rows ≡ length r ⌝ }
 {
     [0; MOST_ROOM]
 }
 
 // The marks buffer: a fresh desk fills as many cells as it has.
 pub fn marks() -> [u16; MOST_MARKS]
-    ensures { λ r. ⌜ 400 ≡ length r ⌝ }
+    ensures { λ r. ⌜ Limits.marks + 16 ≡ length r ⌝ }
 {
     [0; MOST_MARKS]
 }

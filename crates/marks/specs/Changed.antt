@@ -1,5 +1,5 @@
--- The move's count, worked out of keys; and that it is at most 252 an axis, 756 in all.
--- "It is at most 756." (document 01, "What the desk can be told")
+-- The move's count, worked out of keys; and how large it can be.
+-- "It is at most 756." (document 01, "What the desk can be told"); "the move count's limit becomes 1,524" (W4)
 use mathlib.Core.Path.{_≡_, refl, ap, sym, _∙_}
 use mathlib.Core.Logic.{inl, inr}
 use mathlib.Core.List.{List}
@@ -104,7 +104,7 @@ changedKeys≤ old new place l =
     let f = crossedWith old new (keysAt old place) (keysAt new place) in
     four (others f place l) place l (own-counts f place l) (λ q. both (notOf place q) (f q) (crossed≤ (keysAt old place) (keysAt new place) (getD old q 0) (getD new q 0)))
 
--- at most 252 an axis, 756 in all
+-- at most 508 an axis, 1,524 in all
 pub changed≤ : (old new : Axis) (place : ℕ) → place < Limits.places → changed old new place ≤ 4 * (Limits.places - 1)
 unfolding changed
 changed≤ old new place l = four (λ other. cond (isOther old place other) (crossed old new (lowMark place) other + crossed old new (highMark place) other) 0) place l own each
@@ -119,7 +119,7 @@ changed≤ old new place l = four (λ other. cond (isOther old place other) (cro
         both (isOther old place q) (crossed old new (lowMark place) q + crossed old new (highMark place) q)
         (omega (arith, oneIf≤ (xor (earlier old (lowMark place) q) (earlier new (lowMark place) q)), oneIf≤ (xor (earlier old (highMark place) q) (earlier new (highMark place) q))))
 
-pub changedMarks≤ : (old new : Axes) (place : ℕ) → place < Limits.places → changedMarks old new place ≤ 12 * (Limits.places - 1)
+pub changedMarks≤ : (old new : Axes) (place : ℕ) → place < Limits.places → changedMarks old new place ≤ Limits.moveMost
 changedMarks≤ old new place l = omega (arith, changed≤ (axisOf old 0) (axisOf new 0) place l, changed≤ (axisOf old 1) (axisOf new 1) place l, changed≤ (axisOf old 2) (axisOf new 2) place l)
 
 -- the keys of the axis before and after the move give the true count

@@ -54,7 +54,7 @@ pub record InPlace (a : Axis) (part : List ℕ) : Type 0 where
   pub all : (mark : ℕ) → isMark a mark ≡ true → (i : ℕ) × (i < Limits.axisMarks) × (getD part i 0 ≡ mark)
   pub order : (i j : ℕ) → i < j → j < Limits.axisMarks → (getD part j 0 ≡ Limits.noMark → ⊥) → (getD part i 0 ≡ Limits.noMark → ⊥) × (earlier a (getD part i 0) (getD part j 0) ≡ true)
 
--- "one lent buffer of 384 16-bit numbers, 128 an axis; each axis has its own part of that buffer"
+-- "one lent buffer of 384 16-bit numbers, 128 an axis; each axis has its own part of that buffer"; W4: "The marks buffer becomes 768 numbers", 256 an axis
 abbrev pub partX : List ℕ → List ℕ
 partX marks = take Limits.axisMarks marks
 

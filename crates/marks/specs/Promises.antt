@@ -30,5 +30,5 @@ pub record Counted (old new : List ℕ) (place count : ℕ) : Type 0 where
 
 pub record CountedMarks (ox oy oz nx ny nz : List ℕ) (place count : ℕ) : Type 0 where
   pub is : count ≡ changedKeys ox nx place + changedKeys oy ny place + changedKeys oz nz place
-  pub most : count ≤ 12 * (Limits.places - 1)
+  pub most : count ≤ Limits.moveMost
   pub true-count : (a b : Axes) → KeyedMarks a ox oy oz → KeyedMarks b nx ny nz → OthersStayMarks place a b → a .taken place ≡ true → b .taken place ≡ true → count ≡ changedMarks a b place

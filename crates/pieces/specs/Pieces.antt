@@ -1,5 +1,5 @@
 -- What the desk holds, but for marks and rows: the shapes, the places, and the placed corners of a piece with its ends on each axis.
--- Document 01, "What the desk holds". Shape s has its count, then its numbers, at s × 97; place p its shape plus one, its turn and its offset at 5p.
+-- Document 01, "What the desk holds". Shape s has its count, then its numbers, at s × 193; place p its shape plus one, its turn and its offset at 5p.
 use mathlib.Core.Path.{_≡_}
 use mathlib.Core.List.{List, [], _∷_, _++_}
 use mathlib.Core.Bool.{Bool, not, cond}
@@ -37,7 +37,7 @@ pub record Loaded (d : Store) (s : ℕ) : Type 0 where
 abbrev pub shapeValue : Store → ℕ → ℕ → ℤ
 shapeValue d s k = getD (d .shapes) (s * Limits.shapeCells + 1 + k) (pos 0)
 
--- "A shape is a list of 1 to 32 corner points, three numbers each from −65,536 to 65,536." One that is not loaded has none
+-- "A shape is a list of 1 to 32 corner points, three numbers each from −65,536 to 65,536"; 1 to 64 since W4. One that is not loaded has none
 pub record ShapesInOrder (d : Store) : Type 0 where
   pub few : (s : ℕ) → s < Limits.shapes → Numbered (Limits.corners + 1) (countIn (d .shapes) s)
   pub near : (s k : ℕ) → s < Limits.shapes → k < 3 * cornersOf d s → Within Limits.shapeReach (shapeValue d s k)
@@ -49,7 +49,7 @@ heldIn places p = getD places (Limits.placeCells * p) (pos 0)
 abbrev pub turnIn : List ℤ → ℕ → ℤ
 turnIn places p = getD places (Limits.placeCells * p + 1) (pos 0)
 
--- "Places are numbered 0 to 63. A taken place holds a shape number": p is such a place, and holds one
+-- "Places are numbered 0 to 63", to 127 since W4. "A taken place holds a shape number": p is such a place, and holds one
 pub record Taken (places : List ℤ) (p : ℕ) : Type 0 where
   pub place : p < Limits.places
   pub holds : natAbs (heldIn places p) ≡ 0 → ⊥

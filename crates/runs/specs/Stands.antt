@@ -39,4 +39,4 @@ pub record Changes (e : Entry) (before after : Desk) (count : ℕ) : Type 0 wher
   pub rows : (low high : ℕ) → low < Limits.places → high < Limits.places → (Handles (e .command) low → ⊥) → (Handles (e .command) high → ⊥)
       → rowAt (after .rows) low high ≡ rowAt (before .rows) low high
   pub counted : (log : List Entry) → Reached before log → count ≡ reported e (planOf log)
-  pub most : count ≤ 12 * (Limits.places - 1)
+  pub most : count ≤ Limits.moveMost

@@ -212,7 +212,7 @@ reached-once {d} {e} h k =
     record { rows = rows; book = book-once (subst (λ (l : List ℕ). BookInOrder l (d .book)) rows (s .order .book)) (u .order .book); marks = same-marks s u }
 
 -- ---- what one command changes
-none-counted : {n : ℕ} → n ≡ 0 → n ≤ 12 * (Limits.places - 1)
+none-counted : {n : ℕ} → n ≡ 0 → n ≤ Limits.moveMost
 none-counted e = omega arith
 
 accepted-standing : {before after : Desk} (log : List Entry) (c : Command) (numbers : List ℤ) (r : Outcome) → Reached before log → Does c numbers before after r → numberOf r ≡ 0

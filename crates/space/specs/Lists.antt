@@ -1,5 +1,5 @@
 -- Corner lists as they are handed in: how long one must be, and how far its numbers may reach.
--- Document 01: "a corner list's length isn't 3 × (1 to 32)", "a shape's corner number is beyond ±65,536", "a placed corner of a lent list .. beyond ±131,072".
+-- Document 01: "a corner list's length isn't 3 × (1 to 32)" (to 64 since W4), "a shape's corner number is beyond ±65,536", "a placed corner of a lent list .. beyond ±131,072".
 use mathlib.Core.Path.{_≡_}
 use Prim.Native.Nat.{ℕ, _*_, _≤_, _<_}
 use lib.ListN.{length, getD}
@@ -9,7 +9,7 @@ use Rattle.ints.specs.Bounds.{Within}
 use Rattle.limits.specs.Limits.{corners, placedReach}
 use Rattle.space.specs.Verdicts.{Piece}
 
--- n numbers are a corner list: three for each of 1 to 32 corners
+-- n numbers are a corner list: three for each of 1 to 64 corners
 pub record LengthFits (n : ℕ) : Type 0 where
   pub count : ℕ
   pub least : 1 ≤ count

@@ -100,7 +100,7 @@ pub fn first_of(u: i64, v: i64) -> i64
     u
 }
 
-// Whether n numbers are a corner list: three for each of 1 to 32 corners.
+// Whether n numbers are a corner list: three for each of 1 to 64 corners.
 pub fn length_fits(n: usize) -> bool
     ensures { λ r. ⌜ Decides r (LengthFits n) ⌝ }
 {

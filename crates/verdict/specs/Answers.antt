@@ -15,7 +15,7 @@ use Rattle.space.specs.Lists.{LengthFits, InReach}
 use Rattle.verdict_walk.specs.NoPairs.{noPair, noPairs}
 use Rattle.verdict.specs.declared.Answer.{Answer}
 
--- 3: "a corner list's length isn't 3 × (1 to 32)"
+-- 3: "a corner list's length isn't 3 × (1 to 32)", to 64 since W4
 abbrev pub BadLength : Piece → Piece → Type 0
 BadLength A B = (LengthFits (length A) → ⊥) ⊎ (LengthFits (length B) → ⊥)
 

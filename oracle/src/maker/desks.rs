@@ -3,8 +3,8 @@
 
 use super::dice::Dice;
 use super::script::Script;
-use super::shapes::{any, ball, block, numbers};
-use crate::desk::{turn_cell, Part, PLACES, SHAPES};
+use super::shapes::{any, ball, block, many, numbers};
+use crate::desk::{turn_cell, Part, CORNERS, PLACES, SHAPES};
 use crate::point::{Number, Point};
 
 /// How a desk is laid out: shapes within reach, offsets at multiples of a unit.
@@ -56,7 +56,10 @@ fn shape(dice: &mut Dice, layout: &Layout) -> Vec<Point> {
     let corners = match dice.below(12) {
         0 => block([0; 3], [layout.reach; 3]),
         1 => vec![[0; 3]],
-        2 if dice.once_in(4) => ball(dice, layout.reach.max(20)),
+        2 if dice.once_in(8) => {
+            let count = many(dice);
+            ball(dice, layout.reach.max(20), count)
+        }
         _ => any(dice, layout.reach),
     };
     if layout.flat {
@@ -179,7 +182,7 @@ pub fn questions(script: &mut Script, dice: &mut Dice) {
     }
 }
 
-/// Takes all 64 places, in any order, with the shapes that are loaded.
+/// Takes all places, in any order, with the shapes that are loaded.
 fn fill(script: &mut Script, dice: &mut Dice, layout: &Layout) {
     let mut places: Vec<Number> = (0..PLACES as Number).collect();
     dice.shuffle(&mut places);
@@ -191,7 +194,7 @@ fn fill(script: &mut Script, dice: &mut Dice, layout: &Layout) {
     }
 }
 
-/// All 64 places taken by boxes, room for the whole listing or not, and then some moves.
+/// All places taken by boxes, room for the whole listing or not, and then some moves.
 fn full_desk(script: &mut Script, dice: &mut Dice) {
     script.start_afresh();
     let mut told = vec![0];
@@ -205,16 +208,10 @@ fn full_desk(script: &mut Script, dice: &mut Dice) {
         flat: false,
     };
     fill(script, dice, &layout);
-    for question in [
-        "contacts",
-        "rows",
-        "marks",
-        "room 30",
-        "contacts",
-        "room 8192",
-    ] {
+    for question in ["contacts", "rows", "marks", "room 30", "contacts"] {
         script.say(question);
     }
+    script.whole_room();
     for _ in 0..20 {
         let [x, y, z] = offset(dice, &layout);
         script.tell("move", &[dice.below(PLACES) as Number, 0, x, y, z]);
@@ -223,23 +220,24 @@ fn full_desk(script: &mut Script, dice: &mut Dice) {
     script.say("marks");
 }
 
-/// The largest desk there is: 32 shapes of 32 corners loaded, 64 places taken, then a run on it.
+/// The largest desk there is: all shapes loaded with as many corners as they may have, all places taken, then a run on it. The pieces
+/// lie so far apart that a hundred pairs or two have boxes that meet: of such hulls the judge tries a hundred thousand directions a pair.
 pub fn full_hulls(script: &mut Script, dice: &mut Dice) {
     script.start_afresh();
     let layout = Layout {
         reach: 1_000,
         unit: 100,
-        spread: 30,
+        spread: 80,
         most_places: PLACES,
         flat: false,
     };
     for shape in 0..SHAPES as Number {
         let mut told = vec![shape];
-        told.extend(numbers(&ball(dice, layout.reach)));
+        told.extend(numbers(&ball(dice, layout.reach, CORNERS)));
         script.tell("load", &told);
     }
     fill(script, dice, &layout);
-    for _ in 0..100 {
+    for _ in 0..60 {
         one_command(script, dice, &layout);
     }
     questions(script, dice);

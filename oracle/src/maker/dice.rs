@@ -52,7 +52,7 @@ impl Dice {
     pub fn edge_number(&mut self) -> Number {
         let edges: [Number; 12] = [
             -1,
-            64,
+            128,
             255,
             256,
             65_536,

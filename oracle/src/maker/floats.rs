@@ -99,7 +99,7 @@ pub fn blank(script: &mut Script, dice: &mut Dice) {
     }
     script.say(&format!("blank {} {words}", blank.word()));
     if short {
-        script.say("room 8192");
+        script.whole_room();
     }
 }
 

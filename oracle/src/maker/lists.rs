@@ -3,7 +3,8 @@
 
 use super::dice::Dice;
 use super::script::Script;
-use super::shapes::{any, ball, block, cloud, numbers};
+use super::shapes::{any, ball, block, cloud, many, numbers};
+use crate::desk::CORNERS;
 use crate::point::{cross, dot, minus, plus, times, Number, Point};
 
 const LIMIT: Number = 131_072;
@@ -164,7 +165,8 @@ fn contact(dice: &mut Dice, full: bool) -> (Vec<Point>, Vec<Point>) {
     let even = |list: Vec<Point>| -> Vec<Point> { list.into_iter().map(|a| times(2, a)).collect() };
     let list = |dice: &mut Dice| {
         if full {
-            ball(dice, reach)
+            let count = many(dice);
+            ball(dice, reach, count)
         } else {
             any(dice, reach)
         }
@@ -188,7 +190,7 @@ fn contact(dice: &mut Dice, full: bool) -> (Vec<Point>, Vec<Point>) {
 fn extreme(dice: &mut Dice) -> (Vec<Point>, Vec<Point>) {
     let ends = [-LIMIT, 1 - LIMIT, LIMIT - 1, LIMIT, 0, 1, 65_536, -65_536];
     let list = |dice: &mut Dice| {
-        let count = dice.pick(&[1, 2, 3, 4, 4, 8, 12, 32]);
+        let count = dice.pick(&[1, 2, 3, 4, 4, 8, 12, 32, CORNERS]);
         let span = dice.pick(&[2, 4, 8]);
         let corner = |dice: &mut Dice| {
             [0; 3].map(|_: Number| {
@@ -232,8 +234,8 @@ fn crossed(dice: &mut Dice) -> (Vec<Point>, Vec<Point>) {
 pub fn refused(script: &mut Script, dice: &mut Dice) {
     let list = |dice: &mut Dice| -> Vec<Number> {
         let length = match dice.below(3) {
-            0 => dice.pick(&[0, 1, 2, 4, 5, 95, 97, 98, 99, 102, 192]),
-            _ => 3 * (1 + dice.below(32)),
+            0 => dice.pick(&[0, 1, 2, 4, 5, 95, 97, 98, 191, 193, 194, 195, 198, 384]),
+            _ => 3 * (1 + dice.below(CORNERS)),
         };
         let mut numbers: Vec<Number> = (0..length).map(|_| dice.between(-3, 3)).collect();
         if dice.once_in(2) && !numbers.is_empty() {

@@ -7,7 +7,7 @@ use super::lists;
 use super::script::Script;
 use super::spoils::{some_shape, some_taken, Undo};
 use super::texts;
-use crate::desk::{PLACES, SHAPES};
+use crate::desk::{CORNERS, PLACES, SHAPES};
 use crate::point::Number;
 
 pub fn stretch(script: &mut Script, dice: &mut Dice) {
@@ -30,12 +30,13 @@ pub fn begin(script: &mut Script, dice: &mut Dice) {
     script.say("load 0 0 0 0");
     script.say("load 31 0 0 0 2 0 0 0 2 0 0 0 2");
     script.say("load 7 0 0 0 0 0 2 0 2 0 0 2 2 2 0 0 2 0 2 2 2 0 2 2 2");
-    script.say("place 63 31 0 0 0 0");
+    let last = PLACES as Number - 1;
+    script.tell("place", &[last, 31, 0, 0, 0, 0]);
     script.say("place 0 7 0 1 0 0");
     let turn = dice.between(0, 23);
     script.tell(
         "place",
-        &[dice.between(1, 62), 0, turn, 1, 1, dice.between(0, 3)],
+        &[dice.between(1, last - 1), 0, turn, 1, 1, dice.between(0, 3)],
     );
 }
 
@@ -122,8 +123,8 @@ fn turn(dice: &mut Dice) -> Number {
 fn load(script: &mut Script, dice: &mut Dice) {
     let mut told = vec![shape_number(script, dice)];
     let length = match dice.below(3) {
-        0 => dice.pick(&[0, 1, 2, 4, 95, 97, 98, 99, 100, 120]),
-        1 => dice.pick(&[3, 96]),
+        0 => dice.pick(&[0, 1, 2, 4, 95, 97, 191, 193, 194, 195, 196, 240]),
+        1 => dice.pick(&[3, 96, 99, 3 * CORNERS]),
         _ => 3 * (1 + dice.below(6)),
     };
     told.extend((0..length).map(|_| dice.between(-3, 3)));
@@ -171,5 +172,5 @@ fn contacts(script: &mut Script, dice: &mut Dice) {
     let room = dice.pick(&[needed, (needed - 1).max(0), 0, needed / 2]);
     script.tell("room", &[room]);
     script.say("contacts");
-    script.say("room 8192");
+    script.whole_room();
 }

@@ -1,10 +1,10 @@
 //! A script under way: its lines, and the desk as it stands after them, so that makers can aim.
 //! Lines past the wished count are dropped, so that every stretch may end where it likes.
 
-use crate::desk::{Desk, Part};
+use crate::desk::{Desk, Part, MARKS};
 use crate::point::Number;
 use crate::program::Program;
-use crate::words::passed_over;
+use crate::words::{passed_over, ROOM_CELLS};
 
 pub struct Script {
     lines: Vec<u8>,
@@ -66,13 +66,18 @@ impl Script {
 
     /// A desk that takes commands again, whatever was lent and spoiled before.
     pub fn start_afresh(&mut self) {
-        if self.desk().lent != crate::desk::MARKS {
-            self.say("lend 384");
+        if self.desk().lent != MARKS {
+            self.tell("lend", &[MARKS as Number]);
         }
-        if self.program.room != crate::words::ROOM_CELLS {
-            self.say("room 8192");
+        if self.program.room != ROOM_CELLS {
+            self.whole_room();
         }
         self.say("fresh");
+    }
+
+    /// All of the room, as before the first line.
+    pub fn whole_room(&mut self) {
+        self.tell("room", &[ROOM_CELLS as Number]);
     }
 
     /// The script; its last line can be left without an end.

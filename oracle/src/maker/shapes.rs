@@ -2,6 +2,7 @@
 //! Coordinates stay within the reach asked for; small reaches make touching common.
 
 use super::dice::Dice;
+use crate::desk::CORNERS;
 use crate::point::{Number, Point};
 
 fn cloud_corner(dice: &mut Dice, reach: Number) -> Point {
@@ -58,10 +59,19 @@ fn some_block(dice: &mut Dice, reach: Number) -> Vec<Point> {
     block(low, high)
 }
 
-/// 32 corners near a ball's surface, so that most of them are corners of the hull.
-pub fn ball(dice: &mut Dice, reach: Number) -> Vec<Point> {
+/// More than half of the corners that a shape may have, often all of them.
+pub fn many(dice: &mut Dice) -> usize {
+    if dice.once_in(2) {
+        CORNERS
+    } else {
+        CORNERS - dice.below(CORNERS / 2)
+    }
+}
+
+/// `count` corners near a ball's surface, so that most of them are corners of the hull.
+pub fn ball(dice: &mut Dice, reach: Number, count: usize) -> Vec<Point> {
     let mut corners = Vec::new();
-    while corners.len() < 32 {
+    while corners.len() < count {
         let raw = cloud_corner(dice, 1000);
         let size = raw.iter().map(|k| k * k).sum::<Number>().isqrt();
         if size > 100 {
@@ -73,14 +83,14 @@ pub fn ball(dice: &mut Dice, reach: Number) -> Vec<Point> {
 
 /// Some corners repeated, and the order mixed: the same hull, said in another way.
 fn mixed(dice: &mut Dice, mut corners: Vec<Point>) -> Vec<Point> {
-    while corners.len() < 32 && dice.once_in(3) {
+    while corners.len() < CORNERS && dice.once_in(3) {
         corners.push(dice.pick(&corners));
     }
     dice.shuffle(&mut corners);
     corners
 }
 
-/// A list of 1 to 32 corners of any kind, within ±`reach` (at least 1).
+/// A list of corners of any kind, within ±`reach` (at least 1).
 pub fn any(dice: &mut Dice, reach: Number) -> Vec<Point> {
     let corners = match dice.below(16) {
         0 => cloud(dice, reach, 1),

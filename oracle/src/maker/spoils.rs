@@ -6,7 +6,7 @@ use super::dice::Dice;
 use super::refusals::{begin, desk_command};
 use super::script::Script;
 use crate::desk::{count_cell, held_cell, number_cell, offset_cell, turn_cell, Desk, Part};
-use crate::desk::{AXIS_MARKS, CORNERS, MARKS, NO_ROW, PLACES, SHAPES};
+use crate::desk::{AXIS_MARKS, CORNERS, MARKS, MARK_CELLS, NO_ROW, PLACES, SHAPES};
 use crate::point::Number;
 
 /// What brings a spoiled desk back.
@@ -31,8 +31,19 @@ impl Undo {
 
     fn lend(script: &mut Script, dice: &mut Dice) -> Undo {
         let old = script.desk().lent;
-        let cells = dice.pick(&[0, 1, 127, 128, 256, 383, 385, 399, 400]);
-        script.tell("lend", &[cells]);
+        let cells = dice.pick(&[
+            0,
+            1,
+            AXIS_MARKS - 1,
+            AXIS_MARKS,
+            MARKS / 2,
+            2 * AXIS_MARKS,
+            MARKS - 1,
+            MARKS + 1,
+            MARK_CELLS - 1,
+            MARK_CELLS,
+        ]);
+        script.tell("lend", &[cells as Number]);
         Undo::Lend(old)
     }
 
@@ -46,8 +57,11 @@ impl Undo {
                 Undo::spoil(script, Part::Book, cell, tally + 1)
             }
             2 => Undo::spoil(script, Part::Marks, AXIS_MARKS - 1, 0),
-            3 => Undo::spoil(script, Part::Rows, 65 * dice.below(PLACES), 2),
-            _ => Undo::spoil(script, Part::Shapes, count_cell(dice.below(SHAPES)), 33),
+            3 => Undo::spoil(script, Part::Rows, (PLACES + 1) * dice.below(PLACES), 2),
+            _ => {
+                let cell = count_cell(dice.below(SHAPES));
+                Undo::spoil(script, Part::Shapes, cell, CORNERS as Number + 1)
+            }
         }
     }
 }
@@ -139,8 +153,8 @@ fn count(script: &mut Script, dice: &mut Dice) -> Undo {
         1,
         (old - 1).max(0),
         old + 1,
-        32,
-        33,
+        CORNERS as Number,
+        CORNERS as Number + 1,
         255,
         -old,
         -1,
@@ -228,12 +242,12 @@ fn marks(script: &mut Script, dice: &mut Dice) -> Undo {
     let cell = match dice.below(8) {
         0 => axis * AXIS_MARKS + dice.below(AXIS_MARKS),
         1 => (axis * AXIS_MARKS + used).min(MARKS - 1),
-        2 => MARKS + dice.below(16),
+        2 => MARKS + dice.below(MARK_CELLS - MARKS),
         3 => MARKS - 1,
         _ => axis * AXIS_MARKS + dice.below(used),
     };
     let neighbour = script.desk().cell(Part::Marks, (cell + 1) % MARKS);
-    let value = dice.pick(&[0, 1, neighbour, 65_535, 65_534, 128]);
+    let value = dice.pick(&[0, 1, neighbour, 65_535, 65_534, AXIS_MARKS as Number]);
     Undo::spoil(script, Part::Marks, cell, value)
 }
 
@@ -334,7 +348,13 @@ fn changed_cells(before: &Desk, after: &Desk) -> Vec<(Part, usize)> {
 }
 
 fn command_that_keeps(script: &mut Script, dice: &mut Dice) {
-    let questions = ["contacts", "tallies", "pair 0 63", "load 32 0", "remove 64"];
+    let questions = [
+        "contacts",
+        "tallies",
+        "pair 0 127",
+        "load 32 0",
+        "remove 128",
+    ];
     script.say(dice.pick(&questions));
 }
 
@@ -352,7 +372,7 @@ fn no_such_cell(script: &mut Script, dice: &mut Dice) {
         };
         script.say(&format!("spoil {} 0 {value}", part.word()));
     }
-    script.say("lend 401");
+    script.tell("lend", &[MARK_CELLS as Number + 1]);
     script.say("lend -1");
     script.say("room -1");
     script.say("spoil tallies 0 0");

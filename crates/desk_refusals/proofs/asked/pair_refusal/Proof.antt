@@ -27,7 +27,7 @@ first-place : (c : tie.Else2) → let s = c .before .before in let z = s .before
 first-place c = let s = c .before .before in first-is s .yes (omega (arith, c .before .if1 .left))
 
 second-place : (c : tie.Else2) → let s = c .before .before in let z = s .before .before .args .second in Numbered Limits.places z × (s .index-of2 .result ≡ natAbs z)
-second-place c = let s = c .before .before in second-is s .yes (leb-false 64 (s .index-of2 .result) (c .if2 .left))
+second-place c = let s = c .before .before in second-is s .yes (leb-false Limits.places (s .index-of2 .result) (c .if2 .left))
 
 -- past the second both places are taken
 first-taken : (c : tie.Else4) → let a = c .before .before .before .before .before .before .before .before .args in Taken (a .places .now) (natAbs (a .first))
@@ -47,7 +47,7 @@ index-of-requires-2 c κs = search needs
 returns : tie.Need-returns
 returns c =
     let s = c .before in
-    let one = ⊎-elim (λ w. inl (first-is s .no (w .taken))) (λ w. inr (second-is s .no (leb-true 64 (s .index-of2 .result) (w .1 .taken)))) (c .if1 .came) in
+    let one = ⊎-elim (λ w. inl (first-is s .no (w .taken))) (λ w. inr (second-is s .no (leb-true Limits.places (s .index-of2 .result) (w .1 .taken)))) (c .if1 .came) in
     asked-refused (inl (one, refl)) (omega arith)
 
 is-taken-requires : tie.Need-is-taken-requires

@@ -3,14 +3,15 @@ use Prim.Native.Nat.{_≤_, _-_}
 use mathlib.Core.Path.{_≡_, _∙_}
 use native.Mathlib.Omega.{arith}
 use lib.ListN.{length}
+use Rattle.limits.specs.Limits
 use Rattle.line_ask.proofs.asked.each_row.Statement.{statement}
 use Rattle.line_ask.proofs.asked.each_row.Tie as tie
 
 abbrev Inv-loop : tie.InvT-loop
-Inv-loop rows in-words out₀ at next₀ k₀ out next k = (k ≤ 4096) × (length out ≡ length out₀)
+Inv-loop rows in-words out₀ at next₀ k₀ out next k = (k ≤ Limits.rows) × (length out ≡ length out₀)
 
 abbrev μ-loop : tie.MeasureT-loop
-μ-loop rows in-words out₀ at next₀ k₀ out next k = 4096 - k
+μ-loop rows in-words out₀ at next₀ k₀ out next k = Limits.rows - k
 
 loop-holds : tie.Need-loop-holds Inv-loop μ-loop
 loop-holds c = omega arith

@@ -1,14 +1,15 @@
 -- `line_ask::report::pieces` stays in range and ends. The measure is what is left of the places, and no more are counted than were passed.
 use Prim.Native.Nat.{_≤_, _-_}
 use native.Mathlib.Omega.{arith}
+use Rattle.limits.specs.Limits
 use Rattle.line_ask.proofs.report.pieces.Statement.{statement}
 use Rattle.line_ask.proofs.report.pieces.Tie as tie
 
 abbrev Inv-loop : tie.InvT-loop
-Inv-loop places n₀ place₀ n place = (place ≤ 64) × (n ≤ place)
+Inv-loop places n₀ place₀ n place = (place ≤ Limits.places) × (n ≤ place)
 
 abbrev μ-loop : tie.MeasureT-loop
-μ-loop places n₀ place₀ n place = 64 - place
+μ-loop places n₀ place₀ n place = Limits.places - place
 
 loop-holds : tie.Need-loop-holds Inv-loop μ-loop
 loop-holds c = omega arith
