@@ -106,7 +106,7 @@ pub next-once : {before after last : Reader} {r t : Handed} → NextAs before af
 next-once {before} {after} {last} {r} {t} h k =
     let e : r ≡ t = step-once (h .handed) (k .handed) in
     let f : after .file ≡ last .file = h .file ∙ sym (k .file) in
-    let m : after .at ≡ last .at = h .moved ∙ ap (λ (r : Handed). r .next) e ∙ sym (k .moved) in
+    let m : after .at ≡ last .at = h .moved ∙ sym (subst (NextAs before last) (sym e) k .moved) in
     (e, λ i. record { file = f i; at = m i })
 
 -- ---- one triangle after another: the first starts at the first position, and behind each the next one starts, or the file ends

@@ -2,6 +2,7 @@
 // A step is a function of the file and a position; the reader keeps the two together.
 ghost use Prim.Native.Nat.{_+_, _*_, _≤_, _<_};
 ghost use mathlib.Core.Path.{_≡_};
+ghost use mathlib.Core.Bool.{cond};
 ghost use lib.ListN.{length};
 ghost use Rattle.limits.specs.Lowest.{Lowest};
 ghost use Rattle.limits.specs.Decides.{Decides};
@@ -149,11 +150,19 @@ pub fn opened<'a>(file: &'a [u8]) -> Reader<'a>
     Reader { file, at: FIRST }
 }
 
-// The step at the reader's position, and the reader behind the triangle; one that has nothing to hand out stands at 0, where none starts.
+// Where a reader goes on: behind the triangle that was found, else where it was.
+fn onward(found: bool, next: usize, at: usize) -> usize
+    ensures { λ r. ⌜ r ≡ cond found next at ⌝ }
+{
+    if found { next } else { at }
+}
+
+// The step at the reader's position, and the reader behind the triangle; refused, or with no triangle there, it stays as it was.
 pub fn next<'s, 'a>(reader: &'s mut Reader<'a>) -> Handed
     ensures { λ r. ⌜ NextAs (now (reader .entry)) (now (reader .exit)) r ⌝ }
 {
-    let handed = step(reader.file, reader.at);
-    reader.at = handed.next;
+    let at = reader.at;
+    let handed = step(reader.file, at);
+    reader.at = onward(handed.found, handed.next, at);
     handed
 }
