@@ -17,7 +17,9 @@ same-length : tie.Need-same-length
 same-length c = search needs
 
 returns : tie.Need-returns
-returns c = let s = c .before .before .before .before .before .before .before .before .before in removed-handed (toZ-ofZ w32 (s .args .number) (s .fits .number)) (c .before .before .before .remove .ensures) (c .reply-to .ensures)
+returns c =
+    let s = c .before .before .before .before .before .before .before .before .before in
+    removed-handed (toZ-ofZ w32 (s .args .number) (s .fits .number)) (c .before .before .before .remove .ensures) (c .reply-to .ensures)
 
 pub bench-desk-remove-spec : {M : Type 1} → statement M
 bench-desk-remove-spec = tie.close (tie.spec remove-requires reply-to-requires same-length returns)

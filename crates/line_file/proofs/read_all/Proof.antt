@@ -15,8 +15,12 @@ abbrev μ-loop : tie.MeasureT-loop
 μ-loop fd room₀ at₀ room at = length room - at
 
 -- what was read fits what is left
-fits : (c : tie.Else1 Inv-loop μ-loop) → c .before .before .n .given .0 .0 ≤ length (c .before .before .before .before .before .before .before .before .before .loop .room) - c .before .before .before .before .before .before .before .before .before .loop .at
-fits c = subst (GotWithin (length (c .before .before .before .before .before .before .before .before .before .loop .room) - c .before .before .before .before .before .before .before .before .before .loop .at)) (c .before .before .n .given .1) (c .before .before .before .before .before .before .read-behind .ensures)
+fits : (c : tie.Else1 Inv-loop μ-loop)
+    → c .before .before .n .given .0 .0 ≤ length (c .before .before .before .before .before .before .before .before .before .loop .room)
+    - c .before .before .before .before .before .before .before .before .before .loop .at
+fits c =
+    let l = c .before .before .before .before .before .before .before .before .before .loop in
+    subst (GotWithin (length (l .room) - l .at)) (c .before .before .n .given .1) (c .before .before .before .before .before .before .read-behind .ensures)
 
 loop-holds : tie.Need-loop-holds Inv-loop μ-loop
 loop-holds c = (omega arith, refl)
@@ -43,15 +47,18 @@ returns-2 : tie.Need-returns-2 Inv-loop μ-loop
 returns-2 c = let l = c .before .before .before .before .before .before .before .before .before .loop in omega (arith, l .inv .0, l .inv .1)
 
 add-at : tie.Need-add-at Inv-loop μ-loop
-add-at c = omega (arith, fits c, c .before .before .before .before .before .before .before .before .before .loop .inv .0, c .before .before .before .before .before .before .before .before .before .loop .inv .1)
+add-at c = omega (arith, fits c, c .before .before .before .before .before .before .before .before .before .loop .inv .0,
+    c .before .before .before .before .before .before .before .before .before .loop .inv .1)
 
 loop-less : tie.Need-loop-less Inv-loop μ-loop
-loop-less c = omega (arith, fits c, c .if1 .left, c .before .before .before .before .before .before .read-behind .kept .1 .0, c .before .before .before .before .before .before .before .before .before .loop .inv .0)
+loop-less c = omega (arith, fits c, c .if1 .left, c .before .before .before .before .before .before .read-behind .kept .1 .0,
+    c .before .before .before .before .before .before .before .before .before .loop .inv .0)
 
 loop-again : tie.Need-loop-again Inv-loop μ-loop
 loop-again c =
     let r = c .before .before .before .before .before .before .read-behind .kept .1 .0 in
-    (omega (arith, fits c, r, c .before .before .before .before .before .before .before .before .before .loop .inv .0), r ∙ c .before .before .before .before .before .before .before .before .before .loop .inv .1)
+    (omega (arith, fits c, r, c .before .before .before .before .before .before .before .before .before .loop .inv .0),
+    r ∙ c .before .before .before .before .before .before .before .before .before .loop .inv .1)
 
 same-length-3 : tie.Need-same-length-3 Inv-loop μ-loop
 same-length-3 c = c .before .loop .inv .1

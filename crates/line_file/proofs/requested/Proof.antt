@@ -80,10 +80,12 @@ returns-4 c =
     let v = c .before .before .before .before .before .before .before .before .before .before .word-end2 in
     let back = drop (w .result + 1) line in
     let e : w .result ≡ length (firstWord line) = omega (arith, w .ensures .0) in
-    let long : v .result - (w .result + 1) ≡ length (firstWord back) = omega (arith, v .ensures .0, c .before .before .before .before .before .before .before .before .before .before .before .if1 .left) in
+    let long : v .result - (w .result + 1) ≡ length (firstWord back) = omega (arith, v .ensures .0,
+    c .before .before .before .before .before .before .before .before .before .before .before .if1 .left) in
     let word : take (v .result - (w .result + 1)) back ≡ firstWord back = ap (λ (k : ℕ). take k back) long ∙ first-take spaceByte back in
     let reads = subst (Reads _) (c .before .before .before .before .before .shape .given .1) (c .before .before .before .before .before .before .before .read-number .ensures) in
-    let names = names-shape line (w .result) (v .result) e (omega (arith, c .before .before .before .before .before .before .before .before .before .before .before .if1 .left)) (v .ensures .0) (omega (arith, c .before .before .before .before .before .before .before .before .before .if2 .left)) word reads in
+    let names = names-shape line (w .result) (v .result) e (omega (arith, c .before .before .before .before .before .before .before .before .before .before .before .if1 .left))
+    (v .ensures .0) (omega (arith, c .before .before .before .before .before .before .before .before .before .if2 .left)) word reads in
     let f = c .before .from-path in
     let shape = c .before .before .before .before .before .shape .given .0 .0 in
     let same = toZ-ofZ (fits-in w32 shape 2147483648 2147483647 (reads .1) (omega arith) (omega arith)) in

@@ -40,7 +40,9 @@ part-corners-start : tie.Need-part-corners-start
 part-corners-start c = search needs
 
 part-corners-end : tie.Need-part-corners-end
-part-corners-end c = let t = c .before .before .before .before .before .before .before .before .only-text in omega (arith, subst (TextWithin _) (c .before .before .before .before .n .given .1) (t .ensures), t .kept .1 .1 .0)
+part-corners-end c =
+    let t = c .before .before .before .before .before .before .before .before .only-text in
+    omega (arith, subst (TextWithin _) (c .before .before .before .before .n .given .1) (t .ensures), t .kept .1 .1 .0)
 
 sub-corners-2 : tie.Need-sub-corners-2
 sub-corners-2 c = search needs
