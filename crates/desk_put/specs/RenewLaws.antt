@@ -87,7 +87,7 @@ module _ {d e : Store} {boxes : List ℤ} {p : ℕ} {x y z x′ y′ z′ before
   boxed = subst (λ (s : List ℤ). Boxed s boxes) same (w .boxed)
 
   on : (axis : ℕ) → axis < 3 → (keys : List ℕ) → length keys ≡ Limits.axisMarks → Keyed (axisOf (axesOf d) axis) keys → Keyed (axisOf (axesOf e) axis) (keysPut keys p (keysFor boxes
-    (e .places) axis p))
+      (e .places) axis p))
   on axis l keys n k =
       keyed-put (on-axis p axis (axesOf d) (axesOf e) l others) h n k (ranged o axis l) (key-in o boxed axis (lowMark p) (omega arith)) (key-in o boxed axis (highMark p) (omega arith))
 

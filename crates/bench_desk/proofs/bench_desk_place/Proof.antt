@@ -20,8 +20,13 @@ returns : tie.Need-returns
 returns c =
     let s = c .before .before .before .before .before .before .before .before .before in
     places-handed (toZ-ofZ w32 (s .args .number) (s .fits .number))
-    (rw (toZ-ofZ w32 (s .args .shape) (s .fits .shape), toZ-ofZ w32 (s .args .turn) (s .fits .turn), toZ-ofZ w32 (s .args .x) (s .fits .x), toZ-ofZ w32 (s .args .y) (s .fits .y),
-    toZ-ofZ w32 (s .args .z) (s .fits .z)))
+    (rw (
+      toZ-ofZ w32 (s .args .shape) (s .fits .shape),
+      toZ-ofZ w32 (s .args .turn) (s .fits .turn),
+      toZ-ofZ w32 (s .args .x) (s .fits .x),
+      toZ-ofZ w32 (s .args .y) (s .fits .y),
+      toZ-ofZ w32 (s .args .z) (s .fits .z),
+    ))
     (c .before .before .before .place .ensures) (c .reply-to .ensures)
 
 pub bench-desk-place-spec : {M : Type 1} → statement M

@@ -39,9 +39,13 @@ same-length-2 c = search needs
 
 returns-3 : tie.Need-returns-3
 returns-3 c =
-    let a = c .before .before .before .before .before .before in
-    (toZ-ofZ w32 (a .args .shape) (a .fits .shape), written-behind (a .args .file .now) (a .args .numbers .now) _ _ (c .before .before .corners .ensures) (c .if2 .left) (omega (arith,
-    c .before .before .before .before .if1 .left)))
+    let a = c .before .before .before .before .before .before in (
+      toZ-ofZ w32 (a .args .shape) (a .fits .shape),
+      written-behind (a .args .file .now) (a .args .numbers .now) _ _ (c .before .before .corners .ensures) (c .if2 .left) (omega (
+        arith,
+        c .before .before .before .before .if1 .left,
+      )),
+    )
 
 pub from-file-spec : {M : Type 1} → statement M
 from-file-spec =

@@ -47,18 +47,28 @@ returns-2 : tie.Need-returns-2 Inv-loop μ-loop
 returns-2 c = let l = c .before .before .before .before .before .before .before .before .before .loop in omega (arith, l .inv .0, l .inv .1)
 
 add-at : tie.Need-add-at Inv-loop μ-loop
-add-at c = omega (arith, fits c, c .before .before .before .before .before .before .before .before .before .loop .inv .0,
-    c .before .before .before .before .before .before .before .before .before .loop .inv .1)
+add-at c = omega (
+  arith,
+  fits c,
+  c .before .before .before .before .before .before .before .before .before .loop .inv .0,
+  c .before .before .before .before .before .before .before .before .before .loop .inv .1,
+)
 
 loop-less : tie.Need-loop-less Inv-loop μ-loop
-loop-less c = omega (arith, fits c, c .if1 .left, c .before .before .before .before .before .before .read-behind .kept .1 .0,
-    c .before .before .before .before .before .before .before .before .before .loop .inv .0)
+loop-less c = omega (
+  arith,
+  fits c,
+  c .if1 .left,
+  c .before .before .before .before .before .before .read-behind .kept .1 .0,
+  c .before .before .before .before .before .before .before .before .before .loop .inv .0,
+)
 
 loop-again : tie.Need-loop-again Inv-loop μ-loop
 loop-again c =
-    let r = c .before .before .before .before .before .before .read-behind .kept .1 .0 in
-    (omega (arith, fits c, r, c .before .before .before .before .before .before .before .before .before .loop .inv .0),
-    r ∙ c .before .before .before .before .before .before .before .before .before .loop .inv .1)
+    let r = c .before .before .before .before .before .before .read-behind .kept .1 .0 in (
+      omega (arith, fits c, r, c .before .before .before .before .before .before .before .before .before .loop .inv .0),
+      r ∙ c .before .before .before .before .before .before .before .before .before .loop .inv .1,
+    )
 
 same-length-3 : tie.Need-same-length-3 Inv-loop μ-loop
 same-length-3 c = c .before .loop .inv .1

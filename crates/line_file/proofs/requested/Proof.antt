@@ -80,8 +80,11 @@ returns-4 c =
     let v = c .before .before .before .before .before .before .before .before .before .before .word-end2 in
     let back = drop (w .result + 1) line in
     let e : w .result ≡ length (firstWord line) = omega (arith, w .ensures .0) in
-    let long : v .result - (w .result + 1) ≡ length (firstWord back) = omega (arith, v .ensures .0,
-    c .before .before .before .before .before .before .before .before .before .before .before .if1 .left) in
+    let long : v .result - (w .result + 1) ≡ length (firstWord back) = omega (
+      arith,
+      v .ensures .0,
+      c .before .before .before .before .before .before .before .before .before .before .before .if1 .left,
+    ) in
     let word : take (v .result - (w .result + 1)) back ≡ firstWord back = ap (λ (k : ℕ). take k back) long ∙ first-take spaceByte back in
     let reads = subst (Reads _) (c .before .before .before .before .before .shape .given .1) (c .before .before .before .before .before .before .before .read-number .ensures) in
     let names = names-shape line (w .result) (v .result) e (omega (arith, c .before .before .before .before .before .before .before .before .before .before .before .if1 .left))

@@ -52,8 +52,13 @@ returns c =
     let numbers = q .last .1 .0 in
     let asked = subst (Requests line numbers) (told .1) (q .ensures) in
     let same = toZ-ofZ (fits-in w32 (told .0 .0) 2147483648 2147483647 (asked .0 .reads .1) (omega arith) (omega arith)) in
-    inr (toZ w32 (ofZ w32 (told .0 .0)), told .0 .1 .0, numbers, subst (λ (s : ℤ). Requests line numbers (Loading s (told .0 .1 .0))) (sym same) asked,
-    c .before .before .before .before .tell .ensures)
+    inr (
+      toZ w32 (ofZ w32 (told .0 .0)),
+      told .0 .1 .0,
+      numbers,
+      subst (λ (s : ℤ). Requests line numbers (Loading s (told .0 .1 .0))) (sym same) asked,
+      c .before .before .before .before .tell .ensures,
+    )
 
 same-length-4 : tie.Need-same-length-4
 same-length-4 c = search needs

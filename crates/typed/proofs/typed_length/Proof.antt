@@ -66,8 +66,11 @@ returns-4 c =
     let text = d .before .before .args .text .now in
     let n : d .digits .result .count ≡ length (leading text) = d .digits .ensures .0 in
     let few : Few Limits.wholeDigits (leading text) = (omega (arith, c .before .before .before .before .if1 .left), omega (arith, c .before .before .before .if2 .left)) in
-    let plain : NeedlessZero (leading text) → ⊥ = λ z. true≢false (sym (c .before .before .needless-zero .ensures .1 (omega (arith, n, z .several), first-is text
-    (few .0) ∙ z .zero)) ∙ c .before .if3 .left) in
+    let plain : NeedlessZero (leading text) → ⊥ = λ z. true≢false (sym (c .before .before .needless-zero .ensures .1 (
+      omega (arith, n, z .several),
+      first-is text
+          (few .0) ∙ z .zero,
+    )) ∙ c .before .if3 .left) in
     let v : d .digits .result .value ≡ number (leading text) = omega (arith, d .digits .ensures .1, number-few Limits.wholeDigits (leading text) (leading-digits text) (few .1)) in
     answered text (c .after-whole .ensures ∙ ap₂ (λ (x y : ℕ). afterWhole x (drop y text)) v n ∙ form-taken text (few, plain))
 
