@@ -2,7 +2,7 @@
 //! Corners are struck out while the rest still meets; at most five are left (Kirchberger's theorem).
 
 use crate::point::{cross, divisor, dot, minus, Number, Point, ORIGIN};
-use crate::verdict::{decide, Verdict, Weighed};
+use crate::verdict::{decide, widened, Verdict, Weighed, CUBE_CORNERS};
 
 /// Of two lists that meet, so many corners at most are needed to meet.
 const MOST_LEFT: usize = 5;
@@ -34,15 +34,19 @@ impl Kept {
         }
     }
 
-    fn meets(&self, first: &[Point], second: &[Point]) -> bool {
-        let a: Vec<Point> = self.first.iter().map(|&i| first[i]).collect();
-        let b: Vec<Point> = self.second.iter().map(|&i| second[i]).collect();
-        !a.is_empty() && !b.is_empty() && decide(&a, &b).0 != Verdict::Separate
+    fn meets(&self, gap: Number, first: &[Point], second: &[Point]) -> bool {
+        let a = chosen(first, &self.first);
+        let b = chosen(second, &self.second);
+        !a.is_empty() && !b.is_empty() && decide(gap, &a, &b).0 != Verdict::Separate
     }
 }
 
+fn chosen(list: &[Point], corners: &[usize]) -> Vec<Point> {
+    corners.iter().map(|&i| list[i]).collect()
+}
+
 /// Strikes out corners, many at once and then one by one, while what is left still meets.
-fn struck_out(first: &[Point], second: &[Point]) -> Kept {
+fn struck_out(gap: Number, first: &[Point], second: &[Point]) -> Kept {
     let mut kept = Kept {
         first: (0..first.len()).collect(),
         second: (0..second.len()).collect(),
@@ -52,7 +56,7 @@ fn struck_out(first: &[Point], second: &[Point]) -> Kept {
         let mut start = 0;
         while start < kept.len() {
             let fewer = kept.without(start, size);
-            if fewer.meets(first, second) {
+            if fewer.meets(gap, first, second) {
                 kept = fewer;
             } else {
                 start += size;
@@ -90,16 +94,30 @@ fn weights(p: &[Point]) -> Option<Vec<Number>> {
     (positive || negative).then(|| raw.iter().map(|w| w.abs() / common).collect())
 }
 
-/// A balance of two lists that meet. Two that do not have none.
-pub fn balance(first: &[Point], second: &[Point]) -> Option<Vec<Weighed>> {
-    let kept = struck_out(first, second);
+/// A balance of two lists that meet with this gap. Two that do not have none. Corners are struck out
+/// first with the whole cube at each of the first list, then of what is left, widened, point by point.
+pub fn balance(gap: Number, first: &[Point], second: &[Point]) -> Option<Vec<Weighed>> {
+    let few = struck_out(gap, first, second);
+    let cubes = if gap == 0 { 1 } else { CUBE_CORNERS };
+    let wide: Vec<Point> = widened(gap, &chosen(first, &few.first))
+        .into_iter()
+        .step_by(CUBE_CORNERS / cubes)
+        .collect();
+    let few_second = chosen(second, &few.second);
+    let kept = struck_out(0, &wide, &few_second);
     if kept.len() > MOST_LEFT {
         return None;
     }
     let mut all = Vec::new();
     for &a in &kept.first {
         for &b in &kept.second {
-            all.push((a, b, minus(first[a], second[b])));
+            let pair = Weighed {
+                first: few.first[a / cubes] as Number,
+                second: few.second[b] as Number,
+                cube: (a % cubes) as Number,
+                weight: 0,
+            };
+            all.push((pair, minus(wide[a], few_second[b])));
         }
     }
     (1u32..1 << all.len())
@@ -109,17 +127,10 @@ pub fn balance(first: &[Point], second: &[Point]) -> Option<Vec<Weighed>> {
                 .filter(|k| subset >> k & 1 == 1)
                 .map(|k| all[k])
                 .collect();
-            let differences: Vec<Point> = chosen.iter().map(|&(_, _, p)| p).collect();
+            let differences: Vec<Point> = chosen.iter().map(|&(_, p)| p).collect();
             let weights = weights(&differences)?;
-            let pairs = chosen.iter().zip(weights);
-            Some(
-                pairs
-                    .map(|(&(a, b, _), weight)| Weighed {
-                        first: a as Number,
-                        second: b as Number,
-                        weight,
-                    })
-                    .collect(),
-            )
+            let weighed =
+                |(&(pair, _), weight): (&(Weighed, Point), Number)| Weighed { weight, ..pair };
+            Some(chosen.iter().zip(weights).map(weighed).collect())
         })
 }

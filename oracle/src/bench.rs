@@ -53,11 +53,11 @@ rows
 move 2 0 22 21 23
 pair 1 2
 rows
-lists 3 0 0 0 3 0 0 0
-lists 3 0 0 0 3 0 0 1
+lists 0 3 0 0 0 3 0 0 0
+lists 0 3 0 0 0 3 0 0 1
 # Segments crossed at z = 0: penetrating (W5); the second raised to z = 1: separate.
-lists 6 -10 0 0 10 0 0 6 0 -10 0 0 10 0
-lists 6 -10 0 0 10 0 0 6 0 -10 1 0 10 1
+lists 0 6 -10 0 0 10 0 0 6 0 -10 0 0 10 0
+lists 0 6 -10 0 0 10 0 0 6 0 -10 1 0 10 1
 fresh
 load 3 -10 0 0 10 0 0
 load 4 0 -10 0 0 10 0
@@ -91,7 +91,7 @@ remove 1
 remove 2
 load 5 1 2 3
 place 1 5 21 0 0 0
-lists 3 -2 1 3 3 -2 1 3
+lists 0 3 -2 1 3 3 -2 1 3
 marks
 # Source 002: A x 0..2 y 1..5, B x 3..5 y 4..6, C x 1..4 y 0..2, D x 6..7 y 3..7: only AC is left.
 fresh
@@ -108,6 +108,36 @@ rows
 tallies
 marks
 report
+# A gap (W6): B at 0, B at (65,0,0), (66,0,0) and (67,0,0) with a gap of 2: penetrating, touching, row 0; then with none.
+fresh
+load 0 0 0 0 0 0 64 0 64 0 0 64 64 64 0 0 64 0 64 64 64 0 64 64 64
+gap 2
+place 0 0 0 0 0 0
+place 1 0 0 65 0 0
+pair 0 1
+pair 1 0
+rows
+move 1 0 66 0 0
+pair 0 1
+pair 1 0
+rows
+move 1 0 67 0 0
+pair 0 1
+rows
+marks
+gap 0
+remove 0
+remove 1
+gap 0
+place 0 0 0 0 0 0
+place 1 0 0 65 0 0
+rows
+# T at 0, P at (24,23,23) with a gap of 2: touching. At (23,23,23): penetrating. At (24,23,24): separate by (1,1,1). P on P: penetrating.
+lists 2 12 0 0 0 64 0 0 0 64 0 0 0 64 3 24 23 23
+lists 2 12 0 0 0 64 0 0 0 64 0 0 0 64 3 23 23 23
+lists 2 12 0 0 0 64 0 0 0 64 0 0 0 64 3 24 23 24
+lists 2 3 24 23 23 12 0 0 0 64 0 0 0 64 0 0 0 64
+lists 2 3 0 0 0 3 0 0 0
 # Typed lengths.
 length 1,5
 length 1.5

@@ -23,6 +23,9 @@ pub const MARK_CELLS: usize = MARKS + 16;
 pub const NO_MARK: Number = 65_535;
 pub const NO_ROW: Number = 255;
 pub const TALLIES: usize = 4;
+/// W6: the gap is a cell of the book, of 0 to 4,096 steps.
+pub const GAP_CELL: usize = 8;
+pub const GAP_LIMIT: Number = 4_096;
 
 /// The lent parts that `spoil` names.
 #[derive(Clone, Copy, PartialEq, Eq, Debug)]
@@ -132,9 +135,14 @@ fn bad_length(numbers: &[Number]) -> bool {
     !numbers.len().is_multiple_of(3) || !(1..=CORNERS).contains(&(numbers.len() / 3))
 }
 
-/// The refusals of two lent lists of placed corners.
-pub fn lists_refusal(first: &[Number], second: &[Number]) -> Result<(), Number> {
+fn bad_gap(gap: Number) -> bool {
+    !(0..=GAP_LIMIT).contains(&gap)
+}
+
+/// The refusals of a gap and two lent lists of placed corners.
+pub fn lists_refusal(gap: Number, first: &[Number], second: &[Number]) -> Result<(), Number> {
     lowest(&[
+        (GAP_REFUSED, bad_gap(gap)),
         (LIST_LENGTH, bad_length(first) || bad_length(second)),
         (
             PLACED_RANGE,
@@ -160,20 +168,21 @@ fn own_marks(place: usize, corners: &[Point], axis: usize) -> [Mark; 2] {
     [(low, 0, place), (high, 1, place)]
 }
 
-fn boxes_apart(first: &[Point], second: &[Point]) -> bool {
+/// On some axis a high plus the gap is below the other's low. No mark is widened.
+fn boxes_apart(gap: Number, first: &[Point], second: &[Point]) -> bool {
     (0..3).any(|axis| {
         let [first_low, first_high] = extent(first, axis);
         let [second_low, second_high] = extent(second, axis);
-        first_high < second_low || second_high < first_low
+        first_high + gap < second_low || second_high + gap < first_low
     })
 }
 
-/// What a desk row must be: 0 where the boxes are apart, else the verdict.
-pub fn right_row(first: &[Point], second: &[Point]) -> Number {
-    if boxes_apart(first, second) {
+/// What a desk row must be: 0 where the boxes are apart, else the verdict; the first is at the lower place.
+pub fn right_row(gap: Number, first: &[Point], second: &[Point]) -> Number {
+    if boxes_apart(gap, first, second) {
         0
     } else {
-        decide(first, second).0.number()
+        decide(gap, first, second).0.number()
     }
 }
 
@@ -190,7 +199,7 @@ impl Desk {
         self.parts[part as usize][cell] = value;
     }
 
-    /// No shapes, places or rows, tallies 0, every mark 65,535. Cells that now mean nothing stay.
+    /// No shapes, places or rows, tallies and gap 0, every mark 65,535. Cells that now mean nothing stay.
     fn clear(&mut self) {
         for shape in 0..SHAPES {
             self.put(Part::Shapes, count_cell(shape), 0);
@@ -306,8 +315,15 @@ impl Desk {
         })
     }
 
+    /// What the cell of the gap says, in range or not.
+    pub fn gap(&self) -> Number {
+        self.cell(Part::Book, GAP_CELL)
+    }
+
+    /// The book as it must be: the tallies, the gap that it has, and 0 everywhere else.
     fn right_book(&self) -> Vec<Number> {
         let mut book = vec![0; Part::Book.cells()];
+        book[GAP_CELL] = self.gap();
         for &row in self.part(Part::Rows) {
             if let Some(verdict) = index(row, TALLIES) {
                 book[verdict] += 1;
@@ -316,13 +332,14 @@ impl Desk {
         book
     }
 
-    /// Document 01's "in order", with the length of the lent marks.
+    /// Document 01's "in order", with the length of the lent marks and W6's range of the gap.
     pub fn in_order(&self) -> bool {
         self.lent == MARKS
             && self.shapes_in_range()
             && self.places_in_range()
             && self.rows_where_they_belong()
             && self.part(Part::Book) == self.right_book()
+            && !bad_gap(self.gap())
             && self.part(Part::Marks)[..MARKS] == self.right_marks()
     }
 
@@ -449,6 +466,15 @@ impl Desk {
         Ok(())
     }
 
+    /// Sets the gap, while no place is taken; nothing else changes.
+    pub fn set_gap(&mut self, gap: Number) -> Result<(), Number> {
+        self.ordered()?;
+        let in_use = (0..PLACES).any(|place| self.taken(place));
+        lowest(&[(GAP_REFUSED, bad_gap(gap) || in_use)])?;
+        self.put(Part::Book, GAP_CELL, gap);
+        Ok(())
+    }
+
     /// The placed corners of two different taken places.
     pub fn pair(&self, first: Number, second: Number) -> Result<(Vec<Point>, Vec<Point>), Number> {
         self.ordered()?;
@@ -474,10 +500,10 @@ impl Desk {
         for (axis, &number) in offset.iter().enumerate() {
             self.put(Part::Places, offset_cell(place, axis), number);
         }
-        let piece = self.piece(place);
         for other in self.taken_places() {
             if other != place {
-                let row = right_row(&piece, &self.piece(other));
+                let [low, high] = [place.min(other), place.max(other)].map(|p| self.piece(p));
+                let row = right_row(self.gap(), &low, &high);
                 self.put_row(place, other, row);
             }
         }

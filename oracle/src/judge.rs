@@ -2,9 +2,10 @@
 //! A witness is believed where it proves its verdict; everything else is searched for.
 
 use crate::point::{Number, Point, ORIGIN};
-use crate::program::{Expected, Program};
+use crate::program::{Expected, Program, Question};
 use crate::verdict::{
-    decide, direction_in_bounds, is_balance, is_below, is_below_once, is_not_above, Weighed,
+    decide, direction_in_bounds, is_balance, is_below, is_below_once, is_not_above, widened,
+    Weighed,
 };
 use crate::words::passed_over;
 use std::io::{self, BufRead, Write};
@@ -46,23 +47,26 @@ fn claim(answer: &[u8]) -> Option<Claim> {
     let [0, verdict, x, y, z, count, ref rest @ ..] = numbers[..] else {
         return None;
     };
-    let triples = rest.chunks_exact(3);
-    let whole = triples.remainder().is_empty() && (rest.len() / 3) as Number == count;
+    let fours = rest.chunks_exact(4);
+    let whole = fours.remainder().is_empty() && (rest.len() / 4) as Number == count;
     whole.then(|| Claim {
         verdict,
         direction: [x, y, z],
-        pairs: triples
-            .map(|t| Weighed {
-                first: t[0],
-                second: t[1],
-                weight: t[2],
+        pairs: fours
+            .map(|four| Weighed {
+                first: four[0],
+                second: four[1],
+                cube: four[2],
+                weight: four[3],
             })
             .collect(),
     })
 }
 
 /// What is wrong with the witnesses of a claim, given its verdict.
-fn witness_fault(claim: &Claim, first: &[Point], second: &[Point]) -> Option<&'static str> {
+fn witness_fault(claim: &Claim, asked: &Question) -> Option<&'static str> {
+    let Question { gap, first, second } = asked;
+    let wide = widened(*gap, first);
     let d = claim.direction;
     if claim.verdict == 1 && !claim.pairs.is_empty() {
         return Some("a separate pair carries no weights");
@@ -73,29 +77,29 @@ fn witness_fault(claim: &Claim, first: &[Point], second: &[Point]) -> Option<&'s
     if !direction_in_bounds(d) {
         return Some("the direction is beyond 2^39");
     }
-    if claim.verdict == 1 && !is_below(d, first, second) {
+    if claim.verdict == 1 && !is_below(d, &wide, second) {
         return Some("the direction does not part the lists");
     }
-    if claim.verdict == 2 && !is_not_above(d, first, second) {
+    if claim.verdict == 2 && !is_not_above(d, &wide, second) {
         return Some("the direction has some corner on the wrong side");
     }
-    if claim.verdict == 2 && !is_below_once(d, first, second) {
+    if claim.verdict == 2 && !is_below_once(d, &wide, second) {
         return Some("the direction is zero or has all corners level");
     }
-    if claim.verdict != 1 && !is_balance(&claim.pairs, first, second) {
+    if claim.verdict != 1 && !is_balance(&claim.pairs, *gap, first, second) {
         return Some("the weighted differences are no balance");
     }
     None
 }
 
 /// What should have stood there, where the answer to the verdict of two lists is wrong.
-fn verdict_fault(answer: &[u8], first: &[Point], second: &[Point], search: bool) -> Option<String> {
-    let right = || decide(first, second).0;
+fn verdict_fault(answer: &[u8], asked: &Question, search: bool) -> Option<String> {
+    let right = || decide(asked.gap, &asked.first, &asked.second).0;
     let Some(claim) = claim(answer) else {
         let verdict = right().number();
-        return Some(format!("0 {verdict} dx dy dz N a b w .."));
+        return Some(format!("0 {verdict} dx dy dz N a b c w .."));
     };
-    if let Some(fault) = witness_fault(&claim, first, second) {
+    if let Some(fault) = witness_fault(&claim, asked) {
         return Some(format!("0 {} ..: {fault}", right().number()));
     }
     // A parting direction proves separate; a balance and a direction not level prove touching.
@@ -201,7 +205,7 @@ fn fault(
     };
     match expected {
         Expected::Line(line) => Ok((answer != line.as_bytes()).then(|| line.clone())),
-        Expected::Verdict { first, second } => Ok(verdict_fault(answer, first, second, search)),
+        Expected::Verdict(asked) => Ok(verdict_fault(answer, asked, search)),
         Expected::Report(_) => report_fault(answer, answers),
     }
 }

@@ -16,16 +16,21 @@ use std::fs::File;
 use std::io::Read;
 use std::os::unix::ffi::OsStrExt;
 
+/// Two lists of placed corners whose verdict is asked for, and the gap by which the first is widened.
+#[derive(Debug, PartialEq, Eq)]
+pub struct Question {
+    pub gap: Number,
+    pub first: Vec<Point>,
+    pub second: Vec<Point>,
+}
+
 /// What must be answered.
 #[derive(Debug, PartialEq, Eq)]
 pub enum Expected {
     /// This line and no other.
     Line(String),
     /// The verdict of these lists, with witnesses.
-    Verdict {
-        first: Vec<Point>,
-        second: Vec<Point>,
-    },
+    Verdict(Question),
     /// Several lines for people, the last of them `end`.
     Report(Vec<Row>),
 }
@@ -126,11 +131,13 @@ impl Program {
                 offset,
             } => done(&[desk.shift(place, turn, offset)?]),
             Command::Remove { place } => accepted(desk.remove(place)),
+            Command::Gap(gap) => accepted(desk.set_gap(gap)),
             Command::Pair { first, second } => {
                 let (first, second) = desk.pair(first, second)?;
-                Ok(Expected::Verdict { first, second })
+                let gap = desk.gap();
+                Ok(Expected::Verdict(Question { gap, first, second }))
             }
-            Command::Lists { first, second } => lists(&first, &second),
+            Command::Lists { gap, first, second } => lists(gap, &first, &second),
             Command::Contacts => listed(&desk.contacts(self.room)?),
             Command::Rows => listed(&desk.rows()?),
             Command::Tallies => done(&desk.tallies()?),
@@ -180,12 +187,13 @@ fn accepted(result: Result<(), Number>) -> Answer {
     result.and_then(|()| done(&[]))
 }
 
-fn lists(first: &[Number], second: &[Number]) -> Answer {
-    lists_refusal(first, second)?;
-    Ok(Expected::Verdict {
+fn lists(gap: Number, first: &[Number], second: &[Number]) -> Answer {
+    lists_refusal(gap, first, second)?;
+    Ok(Expected::Verdict(Question {
+        gap,
         first: points(first),
         second: points(second),
-    })
+    }))
 }
 
 fn menu_line(k: usize, translated: &[u8], english: &[u8]) -> Answer {
@@ -195,19 +203,23 @@ fn menu_line(k: usize, translated: &[u8], english: &[u8]) -> Answer {
 }
 
 /// A whole answer to the verdict of two lists, its witnesses found by search.
-fn verdict_answer(first: &[Point], second: &[Point]) -> String {
-    let (verdict, direction) = decide(first, second);
+fn verdict_answer(asked: &Question) -> String {
+    let Question { gap, first, second } = asked;
+    let (verdict, direction) = decide(*gap, first, second);
     let mut line = format!("0 {}", verdict.number());
     for component in direction {
         let _ = write!(line, " {component}");
     }
     let pairs = match verdict {
         Verdict::Separate => Vec::new(),
-        _ => balance(first, second).unwrap_or_default(),
+        _ => balance(*gap, first, second).unwrap_or_default(),
     };
     let _ = write!(line, " {}", pairs.len());
     for pair in pairs {
-        let _ = write!(line, " {} {} {}", pair.first, pair.second, pair.weight);
+        let corners = [pair.first, pair.second, pair.cube];
+        for number in corners.into_iter().chain([pair.weight]) {
+            let _ = write!(line, " {number}");
+        }
     }
     line
 }
@@ -228,7 +240,7 @@ fn report(contacts: &[Row]) -> String {
 pub fn answer(expected: &Expected) -> String {
     match expected {
         Expected::Line(line) => line.clone(),
-        Expected::Verdict { first, second } => verdict_answer(first, second),
+        Expected::Verdict(asked) => verdict_answer(asked),
         Expected::Report(contacts) => report(contacts),
     }
 }

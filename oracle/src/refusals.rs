@@ -26,6 +26,7 @@ pub const PLACED_RANGE: Number = 20;
 pub const FILE_LENGTH: Number = 21;
 pub const NO_TRIANGLES: Number = 22;
 pub const MANY_CORNERS: Number = 23;
+pub const GAP_REFUSED: Number = 24;
 
 /// Refuses by the lowest of the numbers whose condition holds.
 pub fn lowest(conditions: &[(Number, bool)]) -> Result<(), Number> {

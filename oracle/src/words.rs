@@ -34,7 +34,9 @@ pub enum Command {
         first: Number,
         second: Number,
     },
+    Gap(Number),
     Lists {
+        gap: Number,
         first: Vec<Number>,
         second: Vec<Number>,
     },
@@ -129,6 +131,7 @@ fn numbered(name: &[u8], numbers: &[Number]) -> Option<Command> {
             offset: [x, y, z],
         },
         (b"remove", &[place]) => Command::Remove { place },
+        (b"gap", &[gap]) => Command::Gap(gap),
         (b"pair", &[first, second]) => Command::Pair { first, second },
         (b"show", &[steps]) => Command::Show(steps),
         (b"lend", &[cells]) => Command::Lend(up_to(Part::Marks.cells(), cells)?),
@@ -250,11 +253,13 @@ fn spoil(words: &[&[u8]]) -> Option<Command> {
         .then_some(Command::Spoil { part, cell, value })
 }
 
-/// Two lists, each after the count of its numbers; a count that is not kept is no command.
+/// A gap and two lists, each after the count of its numbers; a count that is not kept is no command.
 fn lists(numbers: &[Number]) -> Option<Command> {
-    let (first, rest) = counted(numbers)?;
+    let (&gap, rest) = numbers.split_first()?;
+    let (first, rest) = counted(rest)?;
     let (second, rest) = counted(rest)?;
-    rest.is_empty().then_some(Command::Lists { first, second })
+    rest.is_empty()
+        .then_some(Command::Lists { gap, first, second })
 }
 
 fn counted(numbers: &[Number]) -> Option<(Vec<Number>, &[Number])> {
@@ -270,7 +275,7 @@ mod tests {
 
     #[test]
     fn lines_that_are_no_command() {
-        let lines: [&[u8]; 26] = [
+        let lines: [&[u8]; 32] = [
             b"Fresh",
             b"fresh ",
             b" fresh",
@@ -292,8 +297,14 @@ mod tests {
             b"line -1 - -",
             b"line 0 6 -",
             b"line 0  6b",
-            b"lists 3 0 0 0 -1",
-            b"lists 3 0 0 3 0 0 0",
+            b"gap",
+            b"gap ",
+            b"gap 1 1",
+            b"gap 2mm",
+            b"lists 0",
+            b"lists 0 3 0 0 0 -1",
+            b"lists 3 0 0 0 3 0 0 0",
+            b"lists 0 3 0 0 3 0 0 0",
             b"spoil marks 784 0",
             b"spoil rows 0 256",
             b"lend 785",
@@ -319,6 +330,7 @@ mod tests {
             Some(Command::Remove { place: 7 })
         );
         assert_eq!(read(b"remove -0"), Some(Command::Remove { place: 0 }));
+        assert_eq!(read(b"gap 4097"), Some(Command::Gap(4097)));
         assert_eq!(read(b"length  1"), Some(Command::Length(b" 1".to_vec())));
         assert_eq!(read(b"length "), Some(Command::Length(Vec::new())));
         assert_eq!(
@@ -326,8 +338,9 @@ mod tests {
             Some(Command::Scan([0x3fc0_0000, 0x3fc0_0000, 0xffff_ffff]))
         );
         assert_eq!(
-            read(b"lists 0 1 5"),
+            read(b"lists -7 0 1 5"),
             Some(Command::Lists {
+                gap: -7,
                 first: vec![],
                 second: vec![5]
             })

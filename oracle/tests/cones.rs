@@ -4,7 +4,7 @@
 mod shared;
 
 use oracle::point::{cross, dot, minus, plus, times, Number, Point, ORIGIN};
-use oracle::verdict::{decide, is_below, is_below_once, is_not_above, Verdict};
+use oracle::verdict::{decide, is_below, is_below_once, is_not_above, widened, Verdict};
 use shared::{differences, independent, Chance};
 
 fn det(u: Point, v: Point, w: Point) -> Number {
@@ -66,16 +66,23 @@ fn dimension(first: &[Point], second: &[Point]) -> usize {
 
 /// The two ways agree, in both orders of the lists, and the direction shows its verdict.
 fn agree(first: &[Point], second: &[Point]) -> Verdict {
-    let right = by_cones(first, second);
+    agree_at(0, first, second)
+}
+
+/// The same with a gap. The cones are of the differences of the widened first list, written out; that the
+/// second list could be widened instead, as in the other order, is a fact of its own.
+fn agree_at(gap: Number, first: &[Point], second: &[Point]) -> Verdict {
+    let right = by_cones(&widened(gap, first), second);
     for (first, second) in [(first, second), (second, first)] {
-        let (verdict, d) = decide(first, second);
-        assert_eq!(verdict, right, "{first:?} {second:?}");
+        let (verdict, d) = decide(gap, first, second);
+        assert_eq!(verdict, right, "{gap} {first:?} {second:?}");
+        let wide = widened(gap, first);
         let shown = match verdict {
-            Verdict::Separate => is_below(d, first, second),
-            Verdict::Touching => is_not_above(d, first, second) && is_below_once(d, first, second),
+            Verdict::Separate => is_below(d, &wide, second),
+            Verdict::Touching => is_not_above(d, &wide, second) && is_below_once(d, &wide, second),
             Verdict::Penetrating => d == ORIGIN,
         };
-        assert!(shown, "{first:?} {second:?}: {d:?}");
+        assert!(shown, "{gap} {first:?} {second:?}: {d:?}");
     }
     right
 }
@@ -114,6 +121,30 @@ fn random_lists_of_every_dimension() {
     let [[apart, _, one], others @ ..] = seen;
     for count in [apart, one].iter().chain(others.iter().flatten()) {
         assert!(*count >= 100, "{seen:?}");
+    }
+}
+
+/// Lists of every dimension with a gap, the second moved by the gap along some axes: the difference is
+/// solid, whatever the lists are, and every verdict is common.
+#[test]
+fn random_lists_with_a_gap() {
+    let mut chance = Chance(29);
+    let mut seen = [[0; 3]; 4];
+    for round in 0..600 {
+        let [first, second] = lists_of(&mut chance, round % 4, round % 17 == 0);
+        let gap = chance.between(1, 4);
+        let shift = [0; 3].map(|_: Number| gap * chance.between(-1, 1));
+        let mut second = moved(&second[..second.len().min(3)], shift);
+        if chance.below(3) == 0 {
+            second = moved(&second, chance.list(1, 1)[0]);
+        }
+        let first = &first[..first.len().min(3)];
+        assert_eq!(dimension(&widened(gap, first), &second), 3);
+        let verdict = agree_at(gap, first, &second);
+        seen[dimension(first, &second)][verdict.number() as usize - 1] += 1;
+    }
+    for count in seen.iter().flatten() {
+        assert!(*count >= 3, "{seen:?}");
     }
 }
 

@@ -13,21 +13,21 @@ use Rattle.limits.specs.Numbered.{Numbered}
 use Rattle.space.specs.Lists.{LengthFits, InReach}
 use Rattle.pieces.specs.declared.placement.Placement.{Placement}
 use Rattle.pieces.specs.Pieces.{Store, Sized, Loaded, Taken, heldIn, leastTo, greatestTo}
-use Rattle.rows.specs.Rows.{cell, Handled}
+use Rattle.rows.specs.Rows.{cell, rowAt, Handled}
 use Rattle.ints.specs.Cases.{by-same}
 use Rattle.rows.specs.Changes.{put}
 use Rattle.rows.specs.Handling.{handled-none}
 use Rattle.rows_tally.specs.Counting.{filled-at}
 use Rattle.rows_right.specs.Right.{RowRight}
 use Rattle.rows_right.specs.RowLaws.{one-below}
-use Rattle.desk_state.specs.Desk.{Desk, OffsetFits, putAt, loadedAt}
+use Rattle.desk_state.specs.Desk.{Desk, gapOf, OffsetFits, putAt, loadedAt}
 use Rattle.desk_put.specs.Handled.{PutDown}
 use Rattle.desk_put.specs.PutLaws.{put-same}
 use Rattle.desk_load.specs.LoadLaws.{load-order}
 use Rattle.desk.specs.Commands.{freshDesk, placeRefusals, movedTo, Does}
 use Rattle.desk.specs.CommandLaws.{accepts, fresh-order}
 use Rattle.desk.specs.declared.Outcome.the-variants.{Done}
-use Rattle.runs.specs.Log.{Entry}
+use Rattle.runs.specs.Log.{Entry, planOf}
 use Rattle.runs.specs.Reached.{Reached, started, told, ShapeIs}
 use Rattle.runs.specs.Standing.{fresh-standing}
 use Rattle.runs.specs.Theorem.{standing, accepted-changes}
@@ -41,11 +41,15 @@ use Rattle.bench.specs.Moving.{move-holds, move-count}
 use Rattle.bench.specs.Putting.{handled-all, deskAfter, can-put}
 use Rattle.bench.specs.Exhibited.{theBox, boxAt, threeBoxes, theMove, Exhibited}
 
--- ---- a desk that was told a log, has B as shape 0, and of whose places those below n alone may be taken
+-- ---- a desk that was told a log which sets no gap, has B as shape 0, and of whose places those below n alone may be taken
 record Shelf (d : Desk) (log : List Entry) (n : ℕ) : Type 0 where
   reached : Reached d log
+  plain : planOf log .gap ≡ 0
   shape : ShapeIs (d .store) 0 B
   others : (q : ℕ) → Taken (d .store .places) q → q < n
+
+gapless : {d : Desk} {log : List Entry} → Reached d log → planOf log .gap ≡ 0 → gapOf d ≡ 0
+gapless h e = standing h .gap ∙ e
 
 -- one of the first numbers is no refusal
 numbered : {n : ℕ} (k : ℕ) → k < n → (Numbered n (pos k) → ⊥) → ⊥
@@ -72,7 +76,7 @@ loaded-desk =
     let r = told {after = loadedAt freshDesk 0 B} theBox (Done 0) fresh-reached (accepts
     (inr (λ f. f fresh-order, inr (numbered 0 (omega arith), inr (λ f. f box-fits, inr (λ f. f box-near, inr (none-loaded, refl))))))
     (refl, load-order fresh-order (fresh-standing .size) (omega arith) none-loaded box-fits box-near, refl)) in
-    record { reached = r; shape = standing r .holds .shapes 0 (omega arith); others = λ q t. absurd (none-taken q t) }
+    record { reached = r; plain = refl; shape = standing r .holds .shapes 0 (omega arith); others = λ q t. absurd (none-taken q t) }
 
 -- ---- a box put down at place p, which is the next or the last
 module _ {d : Desk} {log : List Entry} {n : ℕ} (k : Shelf d log n) (p x : ℕ) (h : p < Limits.places) (last : n ≤ p + 1) (near : x ≤ Limits.shapeReach) where
@@ -98,9 +102,9 @@ module _ {d : Desk} {log : List Entry} {n : ℕ} (k : Shelf d log n) (p x : ℕ)
   up-to q t = by-same q p (λ e. omega arith) (λ f. omega (arith, below q t f))
 
   -- its rows: the right one with the place q, after those with the places below q
-  row-with : {q v : ℕ} {rows : List ℕ} → length rows ≡ Limits.rows → q < p → Taken (puts .places) q → RowRight puts q p v → Handled (RowRight puts) (puts .places) p q (d .rows) rows
-      → Handled (RowRight puts) (puts .places) p (q + 1) (d .rows) (set rows (cell q p) v)
-  row-with {q} {v} {rows} size l t r w = one-below puts l t (here .taken) r (put rows q p v size (omega arith) h) .step (d .rows) w
+  row-with : {q v : ℕ} {rows : List ℕ} → length rows ≡ Limits.rows → q < p → Taken (puts .places) q → RowRight 0 puts q p v → Handled (RowRight 0 puts) (puts .places) p q (d .rows) rows
+      → Handled (RowRight 0 puts) (puts .places) p (q + 1) (d .rows) (set rows (cell q p) v)
+  row-with {q} {v} {rows} size l t r w = one-below 0 puts l t (here .taken) r (put rows q p v size (omega arith) h) .step (d .rows) w
 
   box-loaded : Loaded (d .store) 0
   box-loaded = record { shape = omega arith; some = λ e. let c = k .shape .count in let size : length B ≡ 24 = refl in omega arith }
@@ -108,7 +112,7 @@ module _ {d : Desk} {log : List Entry} {n : ℕ} (k : Shelf d log n) (p x : ℕ)
   offset-fits : OffsetFits (pos x) (pos 0) (pos 0)
   offset-fits = record { on-x = record { abs = near }; on-y = record { abs = omega arith }; on-z = record { abs = omega arith } }
 
-  puts-down : {rows : List ℕ} → Handled (RowRight puts) (puts .places) p p (d .rows) rows → PutDown d p box (deskAfter d p box rows)
+  puts-down : {rows : List ℕ} → Handled (RowRight 0 puts) (puts .places) p p (d .rows) rows → PutDown d p box (deskAfter d p box rows)
   puts-down w =
       can-put (standing (k .reached) .size)
       (record {
@@ -119,14 +123,16 @@ module _ {d : Desk} {log : List Entry} {n : ℕ} (k : Shelf d log n) (p x : ℕ)
         turn = record { natural = refl; below = omega arith };
         offset = offset-fits;
       })
+      (gapless (k .reached) (k .plain))
       (handled-all (omega arith) below w)
 
 -- ---- B placed at the next place
 places : {d : Desk} {log : List Entry} {n : ℕ} (k : Shelf d log n) (x : ℕ) (h : n < Limits.places) (near : x ≤ Limits.shapeReach) {rows : List ℕ}
-    → Handled (RowRight (putAt (d .store) n (upright (pos 0) x 0 0))) (putAt (d .store) n (upright (pos 0) x 0 0) .places) n n (d .rows) rows
+    → Handled (RowRight 0 (putAt (d .store) n (upright (pos 0) x 0 0))) (putAt (d .store) n (upright (pos 0) x 0 0) .places) n n (d .rows) rows
     → Shelf (deskAfter d n (upright (pos 0) x 0 0) rows) (boxAt n x ∷ log) (n + 1)
 places {d} {n = n} k x h near w = record {
   reached = told (boxAt n x) (Done 0) (k .reached) (accepts asked (puts-down k n x h (omega arith) near w, refl));
+  plain = k .plain;
   shape = record { count = k .shape .count; each = k .shape .each };
   others = up-to k n x h (omega arith) near;
 }
@@ -161,7 +167,7 @@ module _ {d : Desk} {log : List Entry} (k : Shelf d log 1) (first : Holds (d .st
   two-second : Holds two 1 B 64 0 0
   two-second = here k 1 64 (omega arith) (omega arith) (omega arith)
 
-  two-row : RowRight two 0 1 2
+  two-row : RowRight 0 two 0 1 2
   unfolding leastTo greatestTo
   two-row = verdict-row two-first two-second tt lists.boxes-64
 
@@ -230,8 +236,11 @@ module _ {d : Desk} (k : Shelf d threeBoxes 3) (t : HoldsThree (d .store) 0 64 3
   )
 
 -- ---- what is exhibited: the rows of a reached desk are right, and so its listing is the table's
-right-rows : {d : Desk} {log : List Entry} → Reached d log → RightRows (d .store) (d .rows)
-right-rows h = record { order = standing h .order .rows; right = standing h .right }
+right-rows : {d : Desk} {log : List Entry} → Reached d log → planOf log .gap ≡ 0 → RightRows (d .store) (d .rows)
+right-rows {d} h e = record {
+  order = standing h .order .rows;
+  right = λ low high q. subst (λ g. RowRight g (d .store) low high (rowAt (d .rows) low high)) (gapless h e) (standing h .right low high q);
+}
 
 three : (d : Desk) × Shelf d threeBoxes 3 × HoldsThree (d .store) 0 64 32
 three = let a = one in let b = next-two (a .1) (a .2) in next-three (b .1) (b .2) (b .3)
@@ -247,14 +256,14 @@ exhibited = record {
   before = three .0;
   after = after-three .0;
   reached = three .1 .reached;
-  listing = listing (three .0 .store) (three .0 .rows) (three .2) (right-rows (three .1 .reached));
+  listing = listing (three .0 .store) (three .0 .rows) (three .2) (right-rows (three .1 .reached) refl);
   moves = after-three .1;
   counted = sym (accepted-changes theMove (Done 3) (after-three .1) refl .counted threeBoxes (three .1 .reached));
   move-reached = reached-after;
-  move-listing = move-listing (after-three .0 .store) (after-three .0 .rows) (after-three .2) (right-rows reached-after);
+  move-listing = move-listing (after-three .0 .store) (after-three .0 .rows) (after-three .2) (right-rows reached-after refl);
 }
 
 -- so the table speaks of a desk that there is
 pub three-stand : (d : Store) × Sized d × HoldsThree d 0 64 32 × ((rows : List ℕ) × RightRows d rows) × ((rows : List ℕ) × RightRows (moved d) rows)
 unfolding after-three next-moved
-three-stand = (three .0 .store, standing (three .1 .reached) .size, three .2, (three .0 .rows, right-rows (three .1 .reached)), (after-three .0 .rows, right-rows reached-after))
+three-stand = (three .0 .store, standing (three .1 .reached) .size, three .2, (three .0 .rows, right-rows (three .1 .reached) refl), (after-three .0 .rows, right-rows reached-after refl))

@@ -17,6 +17,7 @@ use Rattle.turns.specs.Table.{and-left, and-right, below, number}
 use Rattle.pieces.specs.Pieces.{Store, countAt, shapeAt, shapeValue, offsetAt, placedCorner, pieceAt, lowAt, highAt}
 use Rattle.pieces.specs.Store.{list-length, list-at}
 use Rattle.pieces.specs.Boxes.{Apart}
+use Rattle.pieces.specs.NoGapLaws.{apart-plain}
 use Rattle.rows_right.specs.Right.{RowRight}
 use Rattle.rows_right.specs.RowLaws.{row-apart, row-verdict}
 use Rattle.runs.specs.Afresh.{lowOf, highOf}
@@ -100,13 +101,16 @@ isMixed A B = below (λ axis. leZ (lowOf axis B) (highOf axis A) && leZ (lowOf a
 
 module _ {d : Store} {p q : ℕ} {first second : List ℤ} {x y z u v w : ℕ} (h : Holds d p first x y z) (k : Holds d q second u v w) where
   -- the first is on the low side of the second along this axis
-  pub apart-row : (axis : ℕ) → axis < 3 → T (isApart axis (placed first x y z) (placed second u v w)) → RowRight d p q 0
+  pub apart-row : (axis : ℕ) → axis < 3 → T (isApart axis (placed first x y z) (placed second u v w)) → RowRight 0 d p q 0
   apart-row axis l t =
       let there = subst (λ b. highOf axis (placed first x y z) <ℤ b) (sym (low-is k axis l)) (ltZ-yes t) in
-      row-apart d p q (axis, l, inl (subst (λ a. a <ℤ lowAt d axis q) (sym (high-is h axis l)) there))
+      row-apart 0 d p q (apart-plain d p q .1 (axis, l, inl (subst (λ a. a <ℤ lowAt d axis q) (sym (high-is h axis l)) there)))
 
-  pub not-apart : T (isMixed (placed first x y z) (placed second u v w)) → Apart d p q → ⊥
-  not-apart t (axis, l, a) =
+  pub not-apart : T (isMixed (placed first x y z) (placed second u v w)) → Apart 0 d p q → ⊥
+  not-apart t apart =
+      let on = apart-plain d p q .0 apart in
+      let axis = on .0 in
+      let l = on .1 in
       let A = placed first x y z in
       let B = placed second u v w in
       let both = number (λ axis. leZ (lowOf axis B) (highOf axis A) && leZ (lowOf axis A) (highOf axis B)) 3 t axis l in
@@ -114,8 +118,8 @@ module _ {d : Store} {p q : ℕ} {first second : List ℤ} {x y z u v w : ℕ} (
       ⊎-elim
       (λ c. clashℤ (subst (λ e. e <ℤ lowOf axis B) (high-is h axis l) (subst (λ e. highAt d axis p <ℤ e) (low-is k axis l) c)) (leZ-yes (and-left reaches _ both)))
       (λ c. clashℤ (subst (λ e. e <ℤ lowOf axis A) (high-is k axis l) (subst (λ e. highAt d axis q <ℤ e) (low-is h axis l) c)) (leZ-yes (and-right reaches _ both)))
-      a
+      (on .2)
 
-  pub verdict-row : {n : ℕ} → T (isMixed (placed first x y z) (placed second u v w)) → VerdictIs (placed first x y z) (placed second u v w) n → RowRight d p q n
+  pub verdict-row : {n : ℕ} → T (isMixed (placed first x y z) (placed second u v w)) → VerdictIs 0 (placed first x y z) (placed second u v w) n → RowRight 0 d p q n
   verdict-row {n} t r =
-      row-verdict d p q (not-apart t) (subst (λ A. VerdictIs A (pieceAt d q) n) (sym (piece-is h)) (subst (λ B. VerdictIs (placed first x y z) B n) (sym (piece-is k)) r))
+      row-verdict 0 d p q (not-apart t) (subst (λ A. VerdictIs 0 A (pieceAt d q) n) (sym (piece-is h)) (subst (λ B. VerdictIs 0 (placed first x y z) B n) (sym (piece-is k)) r))

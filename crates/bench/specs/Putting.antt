@@ -20,7 +20,7 @@ use Rattle.marks.specs.Cells.{there-in-place}
 use Rattle.pieces.specs.declared.placement.Placement.{Placement}
 use Rattle.pieces.specs.Pieces.{Sized, Taken, axesOf}
 use Rattle.pieces.specs.Store.{ranged}
-use Rattle.desk_state.specs.Desk.{Desk, putAt}
+use Rattle.desk_state.specs.Desk.{Desk, gapOf, putAt}
 use Rattle.rows_right.specs.Right.{RowRight}
 use Rattle.desk_put.specs.Handled.{MayPut, PutDown}
 use Rattle.desk_put.specs.HandledLaws.{put-piece, put-down}
@@ -49,11 +49,12 @@ marks-after a r =
     three-parts (there-in-place (axisOf a 0) (r 0 (omega arith))) (there-in-place (axisOf a 1) (r 1 (omega arith))) (there-in-place (axisOf a 2) (r 2 (omega arith)))
 
 -- ---- the tallies
+-- the tallies counted, and no gap
 abbrev bookOf : List ℕ → List ℕ
 bookOf rows = countOf 0 rows ∷ countOf 1 rows ∷ countOf 2 rows ∷ countOf 3 rows ∷ replicate (Limits.book - Limits.tallies) 0
 
 book-of : (rows : List ℕ) → BookInOrder rows (bookOf rows)
-book-of rows = record { size = refl; counts = counts; rest = rest }
+book-of rows = record { size = refl; counts = counts; gap = omega arith; rest = λ k h _. rest k h }
   where
     counts : (v : ℕ) → Verdict v → getD (bookOf rows) v 0 ≡ countOf v rows
     counts zero h = refl
@@ -86,10 +87,13 @@ handled-all {places = places} {p} {n} l below d = record {
     widen (inl (e, h)) = inl (e, omega arith)
     widen (inr (e, h)) = inr (e, omega arith)
 
--- ---- the desk after a piece is put down
+-- ---- the desk after a piece is put down, on a desk with no gap
 abbrev pub deskAfter : Desk → ℕ → Placement → List ℕ → Desk
 deskAfter d p q rows = record { store = putAt (d .store) p q; rows = rows; book = bookOf rows; marks = marksAfter (axesOf (putAt (d .store) p q)) }
 
-pub can-put : {d : Desk} {p : ℕ} {q : Placement} {rows : List ℕ} → Sized (d .store) → MayPut d p q
-    → Handled (RowRight (putAt (d .store) p q)) (putAt (d .store) p q .places) p Limits.places (d .rows) rows → PutDown d p q (deskAfter d p q rows)
-can-put {d} {p} {q} {rows} size m h = put-down size m refl (marks-after (axesOf (putAt (d .store) p q)) (ranged (put-piece size m refl .order))) h (book-of rows)
+pub can-put : {d : Desk} {p : ℕ} {q : Placement} {rows : List ℕ} → Sized (d .store) → MayPut d p q → gapOf d ≡ 0
+    → Handled (RowRight 0 (putAt (d .store) p q)) (putAt (d .store) p q .places) p Limits.places (d .rows) rows → PutDown d p q (deskAfter d p q rows)
+can-put {d} {p} {q} {rows} size m g h =
+    put-down size m refl (marks-after (axesOf (putAt (d .store) p q)) (ranged (put-piece size m refl .order)))
+    (subst (λ n. Handled (RowRight n (putAt (d .store) p q)) (putAt (d .store) p q .places) p Limits.places (d .rows) rows) (sym g) h)
+    (record { order = book-of rows; gap = sym g })

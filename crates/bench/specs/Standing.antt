@@ -53,7 +53,7 @@ pub record Loadable (numbers : List ℤ) : Type 0 where
   pub near : InReach Limits.shapeReach numbers
 
 load-more : {d : Desk} {plan : Plan} (s : ℕ) (numbers : List ℤ) → Standing d plan → s < Limits.shapes → plan .shape s ≡ [] → Loadable numbers
-    → Standing (loadedAt d s numbers) (record { shape = with-at (plan .shape) s numbers; place = plan .place })
+    → Standing (loadedAt d s numbers) (record { shape = with-at (plan .shape) s numbers; place = plan .place; gap = plan .gap })
 load-more {d} s numbers old h none w =
     let new : Loaded (d .store) s → ⊥ = λ l. l .some (let c = old .holds .shapes s h .count in let e = ap length none in omega arith) in
     let is = w .fits .is in
@@ -65,7 +65,7 @@ module _ (first second : List ℤ) (f : Loadable first) (g : Loadable second) wh
   abbrev loaded : Desk
   loaded = loadedAt (loadedAt freshDesk 0 first) 1 second
 
-  loaded-stands : Standing loaded (record { shape = with-at (with-at (λ _. []) 0 first) 1 second; place = λ _. free })
+  loaded-stands : Standing loaded (record { shape = with-at (with-at (λ _. []) 0 first) 1 second; place = λ _. free; gap = 0 })
   loaded-stands = load-more 1 second (load-more 0 first fresh-standing (omega arith) refl f) (omega arith) refl g
 
   -- the first at 0

@@ -1,5 +1,5 @@
 -- THE STARRED TABLE: each case that document 01, "Bench pieces", marks with * is one field of `Starred`, stated by the definitions of the crates below, as document 02 amends it.
--- To be read beside the document; the proof is `starred` in Starred.antt. Verdicts: 1 separate, 2 touching, 3 penetrating; a row may also be 0, apart by boxes.
+-- To be read beside the document; the proof is `starred` in Starred.antt. Verdicts: 1 separate, 2 touching, 3 penetrating; a row may also be 0, apart by boxes. The gap is 0 (W6).
 use mathlib.Core.Path.{_≡_}
 use mathlib.Core.List.{List, [], _∷_, _++_}
 use Prim.Native.Nat.{ℕ, _+_, _*_, _<_}
@@ -61,9 +61,9 @@ pub record Holds (d : Store) (p : ℕ) (shape : List ℤ) (x y z : ℕ) : Type 0
 -- the first at 0, the second at (x, y, z): `verdict` is the right one of the two lists and the one that the pair question answers; `row`
 -- is the right one of two places of any desk that hold them, and there is such a desk
 pub record Between (first second : List ℤ) (x y z : ℕ) (verdict row : ℕ) : Type 0 where
-  pub lists : VerdictIs (placed first 0 0 0) (placed second x y z) verdict
-  pub answers : (r : Answer) → pair.Answers (placed first 0 0 0) (placed second x y z) r → (r .number ≡ 0) × (r .verdict ≡ verdict)
-  pub desks : (d : Store) (p q : ℕ) → Holds d p first 0 0 0 → Holds d q second x y z → RowRight d p q row
+  pub lists : VerdictIs 0 (placed first 0 0 0) (placed second x y z) verdict
+  pub answers : (r : Answer) → pair.Answers (pos 0) (placed first 0 0 0) (placed second x y z) r → (r .number ≡ 0) × (r .verdict ≡ verdict)
+  pub desks : (d : Store) (p q : ℕ) → Holds d p first 0 0 0 → Holds d q second x y z → RowRight 0 d p q row
   pub there-is : (d : Store) × Sized d × Holds d 0 first 0 0 0 × Holds d 1 second x y z
 
 -- ---- what it says of three
@@ -88,7 +88,7 @@ moved d = putAt d 2 (movedTo (d .places) 2 (pos 0) newOffset)
 -- the rows are those of a desk in order, and each is the right one
 pub record RightRows (d : Store) (rows : List ℕ) : Type 0 where
   pub order : RowsInOrder (d .places) rows
-  pub right : (low high : ℕ) → PairOf (d .places) low high → RowRight d low high (rowAt rows low high)
+  pub right : (low high : ℕ) → PairOf (d .places) low high → RowRight 0 d low high (rowAt rows low high)
 
 -- ---- typed text: the bytes of a digit, a comma and a point
 abbrev pub digit : ℕ → ℕ
@@ -110,8 +110,8 @@ pub record Starred : Type 0 where
   pub corner-on-face : Between T P 22 21 21 touching touching
   pub corner-inside : Between T P 21 21 21 penetrating penetrating
   pub corner-outside : Between T P 22 21 22 separate separate
-  pub corner-overlap : (d : Store) (p q : ℕ) → Holds d p T 0 0 0 → Holds d q P 22 21 22 → Apart d p q → ⊥
-  pub corner-by : Below (record { x = pos 1; y = pos 1; z = pos 1 }) (placed T 0 0 0) (placed P 22 21 22)
+  pub corner-overlap : (d : Store) (p q : ℕ) → Holds d p T 0 0 0 → Holds d q P 22 21 22 → Apart 0 d p q → ⊥
+  pub corner-by : Below (record { x = pos 1; y = pos 1; z = pos 1 }) 0 (placed T 0 0 0) (placed P 22 21 22)
   -- Document 01: "P on P: touching."; W5 amends it: "01's P on P and the crossed segments at z = 0 become penetrating; every other case stays."
   pub points : Between P P 0 0 0 penetrating penetrating
   -- Document 01: "Segments (±10,0,0) and (0,±10,0): touching; the second raised to z = 1: separate.", amended likewise. Raised, its box is apart along z

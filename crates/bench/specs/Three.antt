@@ -80,23 +80,23 @@ three-pairs {d} t low high l k =
 
 -- the verdicts of the three pairs
 pub record Right (d : Store) (a b c : ℕ) : Type 0 where
-  pub first : RowRight d 0 1 a
-  pub second : RowRight d 0 2 b
-  pub third : RowRight d 1 2 c
+  pub first : RowRight 0 d 0 1 a
+  pub second : RowRight 0 d 0 2 b
+  pub third : RowRight 0 d 1 2 c
 
 module _ {d : Store} {rows : List ℕ} {x0 x1 x2 : ℕ} (t : HoldsThree d x0 x1 x2) (r : RightRows d rows) where
   rows-are : {a b c : ℕ} → Right d a b c → rows ≡ threeRows a b c
   rows-are {a} {b} {c} k = rows-once (r .order .size) (size-3 a b c) (λ low high hl hh. by-pair (d .places) low high hl hh (there low high) (none low high hl hh))
     where
-      right : (low high : ℕ) → low < high → Taken (d .places) low → Taken (d .places) high → RowRight d low high (rowAt rows low high)
+      right : (low high : ℕ) → low < high → Taken (d .places) low → Taken (d .places) high → RowRight 0 d low high (rowAt rows low high)
       right low high l k h = r .right low high (record { rising = l; first = k; second = h })
 
       there : (low high : ℕ) → PairOf (d .places) low high → rowAt rows low high ≡ rowAt (threeRows a b c) low high
       there low high p =
           by-three (λ i j. rowAt rows i j ≡ rowAt (threeRows a b c) i j) low high (p .rising) (t .others high (p .second))
-          (right-once d 0 1 (right 0 1 (omega arith) (t .place-0 .taken) (t .place-1 .taken)) (k .first) ∙ sym (row-0-1 a b c))
-          (right-once d 0 2 (right 0 2 (omega arith) (t .place-0 .taken) (t .place-2 .taken)) (k .second) ∙ sym (row-0-2 a b c))
-          (right-once d 1 2 (right 1 2 (omega arith) (t .place-1 .taken) (t .place-2 .taken)) (k .third) ∙ sym (row-1-2 a b c))
+          (right-once 0 d 0 1 (right 0 1 (omega arith) (t .place-0 .taken) (t .place-1 .taken)) (k .first) ∙ sym (row-0-1 a b c))
+          (right-once 0 d 0 2 (right 0 2 (omega arith) (t .place-0 .taken) (t .place-2 .taken)) (k .second) ∙ sym (row-0-2 a b c))
+          (right-once 0 d 1 2 (right 1 2 (omega arith) (t .place-1 .taken) (t .place-2 .taken)) (k .third) ∙ sym (row-1-2 a b c))
 
       none : (low high : ℕ) → low < Limits.places → high < Limits.places → (PairOf (d .places) low high → ⊥) → rowAt rows low high ≡ rowAt (threeRows a b c) low high
       none low high hl hh f =

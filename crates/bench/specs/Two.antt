@@ -1,10 +1,11 @@
 -- Two pieces of the table: the pair question's answer on their lists, the row of their places, and that such a desk there is.
 -- Each from one test of the two lists and their verdict.
-use mathlib.Core.Path.{_≡_, sym, subst}
+use mathlib.Core.Path.{_≡_, refl, sym, subst}
 use mathlib.Core.List.{List}
 use mathlib.Core.Bool.{Bool, _&&_}
 use mathlib.Core.Logic.{inl, inr}
 use Prim.Native.Nat.{ℕ, _*_, _/_, _<_}
+use native.Mathlib.Omega.{arith}
 use lib.Dec.{T, eqb, leb, eqb→eq, leb→le}
 use lib.IntN.{ℤ, pos, natAbs}
 use lib.ListN.{length, getD}
@@ -52,15 +53,16 @@ placed-by : (shape : List ℤ) (x y z : ℕ) → LengthFits (length shape) → T
 placed-by shape x y z f t = record { fits = subst LengthFits (sym (placed-length (f .count) shape x y z (sym (f .is)))) f; near = near-by Limits.placedReach (placed shape x y z) t }
 
 -- the pair question on two such lists is not refused, and its verdict is the right one
-answered : {A B : List ℤ} {v : ℕ} → Placed A → Placed B → VerdictIs A B v → (r : Answer) → Answers A B r → (r .number ≡ 0) × (r .verdict ≡ v)
+answered : {A B : List ℤ} {v : ℕ} → Placed A → Placed B → VerdictIs 0 A B v → (r : Answer) → Answers (pos 0) A B r → (r .number ≡ 0) × (r .verdict ≡ v)
 answered {A} {B} {v} a b right r h = go (h .refusal)
   where
-    go : Lowest (refusals A B) (r .number) → (r .number ≡ 0) × (r .verdict ≡ v)
+    go : Lowest (refusals (pos 0) A B) (r .number) → (r .number ≡ 0) × (r .verdict ≡ v)
     go (inl (inl f, e)) = absurd (f (a .fits))
     go (inl (inr f, e)) = absurd (f (b .fits))
     go (inr (k, inl (inl f, e))) = absurd (f (a .near))
     go (inr (k, inl (inr f, e))) = absurd (f (b .near))
-    go (inr (k, inr (l, e))) = (e, verdict-once (h .carries e .right) right)
+    go (inr (k, inr (l, inl (f, e)))) = absurd (f (record { natural = refl; below = omega arith }))
+    go (inr (k, inr (l, inr (f, e)))) = (e, verdict-once (h .carries e .right) right)
 
 -- ---- two pieces, the first at 0
 abbrev pub isCase : List ℤ → List ℤ → ℕ → ℕ → ℕ → Bool
@@ -68,7 +70,7 @@ isCase first second x y z = (isShape first && isShape second) && (isNear Limits.
 
 pub record Case (first second : List ℤ) (x y z v : ℕ) : Type 0 where
   pub test : T (isCase first second x y z)
-  pub right : VerdictIs (placed first 0 0 0) (placed second x y z) v
+  pub right : VerdictIs 0 (placed first 0 0 0) (placed second x y z) v
 
 module _ {first second : List ℤ} {x y z v : ℕ} (c : Case first second x y z v) where
   shapes : Loadable first × Loadable second
@@ -76,7 +78,7 @@ module _ {first second : List ℤ} {x y z v : ℕ} (c : Case first second x y z 
       let t = and-left (isShape first && isShape second) _ (c .test) in
       (shape-by first (and-left (isShape first) _ t), shape-by second (and-right (isShape first) _ t))
 
-  answers : (r : Answer) → Answers (placed first 0 0 0) (placed second x y z) r → (r .number ≡ 0) × (r .verdict ≡ v)
+  answers : (r : Answer) → Answers (pos 0) (placed first 0 0 0) (placed second x y z) r → (r .number ≡ 0) × (r .verdict ≡ v)
   answers =
       let t = and-right (isShape first && isShape second) _ (c .test) in
       answered

@@ -6,7 +6,7 @@ use lib.IntN.{ℤ}
 use Rattle.pieces.specs.declared.placement.Placement.{Placement}
 use Rattle.pieces.specs.declared.placement.Offset.{Offset}
 use Rattle.desk_state.specs.Desk.{Desk}
-use Rattle.desk.specs.Commands.{Loads, Places, Moves, Removed}
+use Rattle.desk.specs.Commands.{Loads, Places, Moves, Removed, SetsGap}
 use Rattle.desk.specs.declared.Outcome.{Outcome}
 use Rattle.bench_desk.specs.declared.Reply.{Reply}
 use Rattle.bench_desk.specs.Replies.{replyTo, Replies}
@@ -33,3 +33,6 @@ module _ {d after : Desk} {o : Outcome} {r : Reply} where
 
   pub removed-handed : {place p : ℤ} → p ≡ place → Removed d p after o → r ≡ replyTo o → Replies (λ (a : Outcome). Removed d place after a) r
   removed-handed e h same = record { answer = o; allowed = subst (λ (i : ℤ). Removed d i after o) e h; same = same }
+
+  pub gap-handed : {gap g : ℤ} → g ≡ gap → SetsGap d g after o → r ≡ replyTo o → Replies (λ (a : Outcome). SetsGap d gap after a) r
+  gap-handed e h same = record { answer = o; allowed = subst (λ (i : ℤ). SetsGap d i after o) e h; same = same }

@@ -1,6 +1,7 @@
 -- WHAT A PROGRAM IN ANOTHER LANGUAGE IS TOLD: an answer of the desk, or the pair question's, as two numbers.
 -- Each is the reply to an answer that the call's own record allows; no answer is allowed here that is not allowed there.
 use mathlib.Core.Path.{_≡_}
+use lib.IntN.{pos}
 use Rattle.limits.specs.Limits
 use Rattle.space.specs.Verdicts.{Piece}
 use Rattle.verdict.specs.Answers.{Answers}
@@ -20,11 +21,11 @@ pub record Replies (Allowed : Outcome → Type 0) (r : Reply) : Type 0 where
   pub allowed : Allowed answer
   pub same : r ≡ replyTo answer
 
--- the reply to the pair question on two lists: the witnesses stay behind
+-- the reply to the pair question on two lists with no gap between them: the witnesses stay behind
 abbrev pub verdictOf : Answer → VerdictReply
 verdictOf a = record { number = a .number; verdict = a .verdict }
 
 pub record RepliesVerdict (A B : Piece) (r : VerdictReply) : Type 0 where
   pub answer : Answer
-  pub allowed : Answers A B answer
+  pub allowed : Answers (pos 0) A B answer
   pub same : r ≡ verdictOf answer

@@ -4,10 +4,11 @@ ghost use mathlib.Core.Path.{_≡_};
 ghost use Rattle.limits.specs.Decides.{Decides};
 ghost use Rattle.desk_state.specs.Desk.{deskOf, InOrder};
 ghost use Rattle.desk.specs.declared.Outcome.{Outcome};
-ghost use Rattle.desk.specs.Commands.{Started, Loads, Places, Moves, Removed};
+ghost use Rattle.desk.specs.Commands.{Started, Loads, Places, Moves, Removed, SetsGap};
 ghost use Rattle.bench_desk.specs.Replies.{replyTo, Replies, RepliesVerdict};
 use desk::Outcome;
 use desk::start::start;
+use desk_gap::set_gap;
 use desk_load::load;
 use desk_move::move_piece;
 use desk_place::place;
@@ -146,6 +147,22 @@ pub extern "C" fn bench_desk_remove(
 }
 
 #[no_mangle]
+pub extern "C" fn bench_desk_set_gap(
+    shapes: &[i32; limits::SHAPES_LENGTH],
+    places: &[i32; limits::PLACES_LENGTH],
+    rows: &[u8; limits::ROWS],
+    book: &mut [u32; limits::BOOK],
+    marks: &[u16],
+    gap: i32,
+) -> Reply
+    ensures { λ r. ⌜ Replies (λ (o : Outcome). SetsGap
+        (deskOf (now (shapes .entry)) (now (places .entry)) (now (rows .entry)) (now (book .entry)) (now (marks .entry))) gap
+        (deskOf (now (shapes .entry)) (now (places .entry)) (now (rows .entry)) (now (book .exit)) (now (marks .entry))) o) r ⌝ }
+{
+    reply_to(set_gap(shapes, places, rows, book, marks, gap))
+}
+
+#[no_mangle]
 pub extern "C" fn bench_desk_in_order(
     shapes: &[i32; limits::SHAPES_LENGTH],
     places: &[i32; limits::PLACES_LENGTH],
@@ -158,11 +175,12 @@ pub extern "C" fn bench_desk_in_order(
     desk_in_order(shapes, places, rows, book, marks)
 }
 
+// With no gap between the pieces.
 #[no_mangle]
 pub extern "C" fn bench_desk_pair_of_lists(first: &[i32], second: &[i32]) -> VerdictReply
     ensures { λ r. ⌜ RepliesVerdict (now (first .entry)) (now (second .entry)) r ⌝ }
 {
-    let a = pair_of_lists(first, second);
+    let a = pair_of_lists(0, first, second);
     let number = a.number;
     let verdict = a.verdict;
     VerdictReply {

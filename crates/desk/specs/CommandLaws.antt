@@ -3,7 +3,7 @@
 use mathlib.Core.Path.{_≡_, refl, sym, ap, _∙_, subst}
 use mathlib.Core.List.{List}
 use mathlib.Core.Logic.{inl, inr}
-use Prim.Native.Nat.{ℕ, _+_, _*_, _<_}
+use Prim.Native.Nat.{ℕ, _+_, _*_, _≤_, _<_}
 use native.Mathlib.Omega.{arith}
 use lib.IntN.{ℤ, pos, natAbs}
 use lib.ListN.{replicate}
@@ -14,7 +14,7 @@ use Rattle.limits.specs.Numbered.{Numbered}
 use Rattle.rows.specs.Rows.{Handled}
 use Rattle.rows_list.specs.Contacts.{Lists}
 use Rattle.rows_tally.specs.Tallies.{BookInOrder}
-use Rattle.rows_tally.specs.Counting.{filled-at, book-once, book-started}
+use Rattle.rows_tally.specs.Counting.{filled-at, zero-at, book-once, book-started, gap-order, gap-is}
 use Rattle.rows.specs.Changes.{cleared-once}
 use Rattle.rows.specs.Handling.{rows-started, handled-once}
 use Rattle.rows_list.specs.declared.Listed.{Listed}
@@ -30,12 +30,12 @@ use Rattle.verdict.specs.AnswerLaws.{one-answer}
 use Rattle.verdict.specs.declared.Answer.{Answer}
 use Rattle.desk_put.specs.Handled.{Emptied, PutDown}
 use Rattle.rows_right.specs.RowLaws.{carries-at, right-once}
-use Rattle.desk_state.specs.Desk.{Desk, deskOf, InOrder}
+use Rattle.desk_state.specs.Desk.{Desk, deskOf, gapOf, InOrder, gapAt}
 use Rattle.rows_right.specs.Right.{RowRight}
 use Rattle.desk.specs.Commands.{Commanded, freshDesk, startRefusals, Started, loadRefusals, Loads, placeRefusals, Places, moveRefusals}
-use Rattle.desk.specs.Commands.{MovedBy, Moves, removeRefusals, Removed, contactRefusals, ListsContacts, pairRefusals, Pairs, Does}
+use Rattle.desk.specs.Commands.{MovedBy, Moves, removeRefusals, Removed, gapRefusals, SetsGap, contactRefusals, ListsContacts, pairRefusals, Pairs, Does}
 use Rattle.desk.specs.declared.Command.{Command}
-use Rattle.desk.specs.declared.Command.the-variants.{Start, Load, Place, Move, Remove}
+use Rattle.desk.specs.declared.Command.the-variants.{Start, Load, Place, Move, Remove, Gap}
 use Rattle.desk.specs.declared.Outcome.{Outcome}
 use Rattle.desk.specs.declared.Outcome.the-variants as outcome
 
@@ -89,18 +89,19 @@ pub loaded-once : {d a b : Desk} {shape : ℤ} {numbers : List ℤ} (q r : Outco
 loaded-once {d} {shape = shape} {numbers} = commanded-once (loadRefusals d shape numbers) (λ m n p q. (p .0 ∙ sym (q .0), p .2 ∙ sym (q .2)))
 
 -- ---- placing, moving and removing
--- two desks in order with the same shapes, places and rows are the same
-pub desk-once : {a b : Desk} → InOrder a → InOrder b → a .store ≡ b .store → a .rows ≡ b .rows → a ≡ b
-desk-once {a} {b} p q s r =
+-- two desks in order with the same shapes, places, rows and gap are the same
+pub desk-once : {a b : Desk} → InOrder a → InOrder b → a .store ≡ b .store → a .rows ≡ b .rows → gapOf a ≡ gapOf b → a ≡ b
+desk-once {a} {b} p q s r g =
     let m = one-buffer (axesOf (b .store)) (ranged (q .pieces)) (a .marks) (b .marks) (subst (λ (d : Store). InPlaceMarks (axesOf d) (a .marks)) s (p .marks)) (q .marks) in
-    let k = book-once (subst (λ (l : List ℕ). BookInOrder l (a .book)) r (p .book)) (q .book) in
+    let k = book-once (subst (λ (l : List ℕ). BookInOrder l (a .book)) r (p .book)) (q .book) g in
     rw (s, r, m, k)
 
 put-once : {d a b : Desk} {p : ℕ} {q : Placement} → PutDown d p q a → PutDown d p q b → a ≡ b
 put-once {d} {a} {b} {p} e f =
     let same = e .store ∙ sym (f .store) in
-    let rows = subst (λ (k : Store). Handled (RowRight k) (k .places) p Limits.places (d .rows) (a .rows)) same (e .rows) in
-    desk-once (e .order) (f .order) same (handled-once (λ low high v w. right-once (b .store) low high) (sym (e .rows .size) ∙ e .order .rows .size) rows (f .rows))
+    let rows = subst (λ (k : Store). Handled (RowRight (gapOf d) k) (k .places) p Limits.places (d .rows) (a .rows)) same (e .rows) in
+    desk-once (e .order) (f .order) same (handled-once (λ low high v w. right-once (gapOf d) (b .store) low high) (sym (e .rows .size) ∙ e .order .rows .size) rows (f .rows))
+    (e .gap ∙ sym (f .gap))
 
 pub placed-once : {d a b : Desk} {place : ℤ} {o : Placement} (q r : Outcome) → Places d place o a q → Places d place o b r → (a ≡ b) × (q ≡ r)
 placed-once {d} {place = place} {o} = commanded-once (placeRefusals d place o) (λ m n p q. (put-once (p .0) (q .0), p .1 ∙ sym (q .1)))
@@ -114,10 +115,26 @@ moved-once {d} {a} {b} {place} {turn} {o} = commanded-once (moveRefusals d place
         (same, p .counted ∙ ap (λ (k : Desk). changedMarks (axesOf (d .store)) (axesOf (k .store)) (natAbs place)) same ∙ sym (q .counted))
 
 emptied-once : {d a b : Desk} {p : ℕ} → Emptied d p a → Emptied d p b → a ≡ b
-emptied-once e f = desk-once (e .order) (f .order) (e .store ∙ sym (f .store)) (cleared-once (sym (e .rows .size) ∙ e .order .rows .size) (e .rows) (f .rows))
+emptied-once e f =
+    desk-once (e .order) (f .order) (e .store ∙ sym (f .store)) (cleared-once (sym (e .rows .size) ∙ e .order .rows .size) (e .rows) (f .rows)) (e .gap ∙ sym (f .gap))
 
 pub removed-once : {d a b : Desk} {place : ℤ} (q r : Outcome) → Removed d place a q → Removed d place b r → (a ≡ b) × (q ≡ r)
 removed-once {d} {place = place} = commanded-once (removeRefusals d place) (λ m n p q. (emptied-once (p .0) (q .0), p .1 ∙ sym (q .1)))
+
+-- ---- setting the gap
+pub gap-once : {d a b : Desk} {gap : ℤ} (q r : Outcome) → SetsGap d gap a q → SetsGap d gap b r → (a ≡ b) × (q ≡ r)
+gap-once {d} {gap = gap} = commanded-once (gapRefusals d gap) (λ m n p q. (p .0 ∙ sym (q .0), p .2 ∙ sym (q .2)))
+
+-- a desk in order whose gap is set is in order, and that is its gap then
+pub gap-set-order : {d : Desk} {gap : ℕ} → gap ≤ Limits.gapMost → InOrder d → InOrder (gapAt d gap)
+gap-set-order h o = record { pieces = o .pieces; marks = o .marks; rows = o .rows; book = gap-order h (o .book) }
+
+pub gap-set : {d : Desk} (gap : ℕ) → InOrder d → gapOf (gapAt d gap) ≡ gap
+gap-set gap o = gap-is (o .book)
+
+-- W6: the gap "is 0 at the start"
+pub fresh-gap : gapOf freshDesk ≡ 0
+fresh-gap = zero-at Limits.book Limits.gapCell
 
 -- ---- one command: its desk and its answer are one
 pub does-once : (c : Command) (numbers : List ℤ) (d a b : Desk) (q r : Outcome) → Does c numbers d a q → Does c numbers d b r → (a ≡ b) × (q ≡ r)
@@ -126,6 +143,7 @@ does-once (Load shape) numbers d a b q r = loaded-once {numbers = numbers} q r
 does-once (Place place o) numbers d a b q r = placed-once q r
 does-once (Move place turn o) numbers d a b q r = moved-once q r
 does-once (Remove place) numbers d a b q r = removed-once q r
+does-once (Gap gap) numbers d a b q r = gap-once q r
 
 -- ---- the listing
 pub contacts-refused : {d : Desk} {room : List ℕ} → (InOrder d → ⊥) → ListsContacts d room room (Refused Limits.disorder)
@@ -152,7 +170,7 @@ pub pair-refuses : {d : Desk} {first second : ℤ} {n : ℕ} {r : Answer} → Lo
 pair-refuses {d} {first} {second} {n} h k e = subst (Pairs d first second) (sym e) (record { refusal = h; zeros = λ _. refl; carries = λ z. absurd (omega arith) })
 
 pub pair-answers : {d : Desk} {first second : ℤ} {i j : ℕ} {r : Answer} → Lowest (pairRefusals d first second) 0 → i ≡ natAbs first → j ≡ natAbs second
-    → (r .number ≡ 0) × Carries (pieceAt (d .store) i) (pieceAt (d .store) j) r → Pairs d first second r
+    → (r .number ≡ 0) × Carries (gapOf d) (pieceAt (d .store) i) (pieceAt (d .store) j) r → Pairs d first second r
 pair-answers {d} {first} {second} {r = r} h ei ej c = record {
   refusal = subst (Lowest (pairRefusals d first second)) (sym (c .0)) h;
   zeros = λ f. absurd (f (c .0));

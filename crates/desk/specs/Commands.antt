@@ -2,6 +2,7 @@
 -- Refused: the lowest number that applies, and nothing that was lent has changed. What several commands refuse stands in crate `desk_refusals`, Parts.antt; the laws in CommandLaws.antt.
 use mathlib.Core.Path.{_≡_}
 use mathlib.Core.List.{List, [], _∷_, _++_}
+use mathlib.Core.Logic.{_⊎_}
 use Prim.Native.Nat.{ℕ, _-_, _*_, _≤_, _<_}
 use lib.IntN.{ℤ, pos, natAbs, _-ℤ_}
 use lib.ListN.{length, drop, replicate}
@@ -13,17 +14,17 @@ use Rattle.space.specs.Lists.{LengthFits, InReach}
 use Rattle.marks.specs.Marks.{changedMarks}
 use Rattle.pieces.specs.declared.placement.Placement.{Placement}
 use Rattle.pieces.specs.declared.placement.Offset.{Offset}
-use Rattle.pieces.specs.Pieces.{Store, Loaded, heldIn, axesOf, pieceAt}
-use Rattle.verdict.specs.Answers.{nothing, Carries}
+use Rattle.pieces.specs.Pieces.{Store, Loaded, Taken, heldIn, axesOf, pieceAt}
+use Rattle.verdict.specs.Answers.{nothing, Carries, GapFits}
 use Rattle.verdict.specs.declared.Answer.{Answer}
-use Rattle.desk_state.specs.Desk.{Desk, deskOf, InOrder, loadedAt}
+use Rattle.desk_state.specs.Desk.{Desk, deskOf, gapOf, InOrder, loadedAt, gapAt}
 use Rattle.desk_put.specs.Handled.{PutDown, Emptied}
 use Rattle.limits.specs.Numbered.{Numbered}
 use Rattle.desk_refusals.specs.Parts.{shapeRefusals, emptyRefusals, takenRefusals, placementRefusals, twoRefusals}
 use Rattle.desk.specs.declared.Outcome.{Outcome}
 use Rattle.desk.specs.declared.Outcome.the-variants.{Done, Refused}
 use Rattle.desk.specs.declared.Command.{Command}
-use Rattle.desk.specs.declared.Command.the-variants.{Start, Load, Place, Move, Remove}
+use Rattle.desk.specs.declared.Command.the-variants.{Start, Load, Place, Move, Remove, Gap}
 
 -- document 01's number of an answer, 0 where it is done, and its count, zero on a refusal
 abbrev pub numberOf : Outcome → ℕ
@@ -47,7 +48,7 @@ pub record Commanded (l : List Refusal) (Accepted : ℕ → Type 0) (before afte
   pub done : numberOf r ≡ 0 → Accepted (outcomeCount r)
   pub named : Named r
 
--- ---- "Start afresh: no shapes, places or rows, tallies 0, every mark 65,535." Cells that mean nothing are 0 too
+-- ---- "Start afresh: no shapes, places or rows, tallies 0, every mark 65,535." W6: the gap "is 0 at the start". Cells that mean nothing are 0 too
 abbrev pub freshDesk : Desk
 freshDesk =
     deskOf
@@ -113,6 +114,18 @@ removeRefusals d place = Limits.disorder when (InOrder d → ⊥) ∷ takenRefus
 abbrev pub Removed : Desk → ℤ → Desk → Outcome → Type 0
 Removed before place after r = Commanded (removeRefusals before place) (λ count. Emptied before (natAbs place) after × (count ≡ 0)) before after r
 
+-- ---- W6: the gap "can be set only while no place is taken": 1, 24 "gap out of range, or set while a place is taken"
+pub record SomeTaken (places : List ℤ) : Type 0 where
+  pub place : ℕ
+  pub taken : Taken places place
+
+abbrev pub gapRefusals : Desk → ℤ → List Refusal
+gapRefusals d gap = Limits.disorder when (InOrder d → ⊥) ∷ Limits.gapRefused when ((GapFits gap → ⊥) ⊎ SomeTaken (d .store .places)) ∷ []
+
+-- "An accepted setting stores its gap and changes nothing else; only another setting or a fresh start alters it."
+abbrev pub SetsGap : Desk → ℤ → Desk → Outcome → Type 0
+SetsGap before gap after r = Commanded (gapRefusals before gap) (λ count. (after ≡ gapAt before (natAbs gap)) × InOrder after × (count ≡ 0)) before after r
+
 -- ---- "List contacts". 1: "the desk, or the length of its marks buffer, is not in order"; then what the listing itself refuses
 abbrev pub contactRefusals : Desk → List ℕ → List Refusal
 contactRefusals d room = Limits.disorder when (InOrder d → ⊥) ∷ listing.refusals (d .rows) room
@@ -130,11 +143,11 @@ pub record ListsContacts (d : Desk) (room after : List ℕ) (r : Listed) : Type 
 abbrev pub pairRefusals : Desk → ℤ → ℤ → List Refusal
 pairRefusals d first second = Limits.disorder when (InOrder d → ⊥) ∷ twoRefusals (d .store .places) first second
 
--- the desk is lent to be read alone; "The first piece is the one named first."
+-- the desk is lent to be read alone; "The first piece is the one named first." W6: the desk's gap "serves places too"
 pub record Pairs (d : Desk) (first second : ℤ) (r : Answer) : Type 0 where
   pub refusal : Lowest (pairRefusals d first second) (r .number)
   pub zeros : (r .number ≡ Limits.done → ⊥) → r ≡ nothing (r .number)
-  pub carries : r .number ≡ Limits.done → Carries (pieceAt (d .store) (natAbs first)) (pieceAt (d .store) (natAbs second)) r
+  pub carries : r .number ≡ Limits.done → Carries (gapOf d) (pieceAt (d .store) (natAbs first)) (pieceAt (d .store) (natAbs second)) r
 
 -- ---- one command, with the corner numbers that come with it: a load takes them, every other command passes them over
 abbrev pub Does : Command → List ℤ → Desk → Desk → Outcome → Type 0
@@ -143,3 +156,4 @@ Does (Load shape) numbers before after r = Loads before shape numbers after r
 Does (Place place q) numbers before after r = Places before place q after r
 Does (Move place turn o) numbers before after r = Moves before place turn o after r
 Does (Remove place) numbers before after r = Removed before place after r
+Does (Gap gap) numbers before after r = SetsGap before gap after r

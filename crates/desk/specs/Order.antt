@@ -7,7 +7,7 @@ use Rattle.limits.specs.Lowest.{Rising}
 use Rattle.pieces.specs.declared.placement.Placement.{Placement}
 use Rattle.pieces.specs.declared.placement.Offset.{Offset}
 use Rattle.desk_state.specs.Desk.{Desk}
-use Rattle.desk.specs.Commands.{startRefusals, loadRefusals, placeRefusals, moveRefusals, removeRefusals, contactRefusals, pairRefusals}
+use Rattle.desk.specs.Commands.{startRefusals, loadRefusals, placeRefusals, moveRefusals, removeRefusals, gapRefusals, contactRefusals, pairRefusals}
 
 module _ (d : Desk) where
   pub start-rise : Rising (startRefusals d)
@@ -24,6 +24,9 @@ module _ (d : Desk) where
 
   pub remove-rise : (place : ℤ) → Rising (removeRefusals d place)
   remove-rise place = tt
+
+  pub gap-rise : (gap : ℤ) → Rising (gapRefusals d gap)
+  gap-rise gap = tt
 
   pub contacts-rise : (room : List ℕ) → Rising (contactRefusals d room)
   contacts-rise room = tt

@@ -1,5 +1,5 @@
 // The desk: what each command and question promises, the answer to a command, starting afresh, and the listing of contacts.
-// The other commands stand in `desk_load`, `desk_place`, `desk_move` and `desk_ask`; each first tests that the desk is in order.
+// The other commands stand in `desk_load`, `desk_place`, `desk_move`, `desk_gap` and `desk_ask`; each first tests that the desk is in order.
 pub mod contacts;
 pub mod start;
 
@@ -19,4 +19,5 @@ pub enum Command {
     Place(i32, Placement),
     Move(i32, i32, Offset),
     Remove(i32),
+    Gap(i32),
 }

@@ -1,4 +1,4 @@
-// Starting afresh: no shapes, places or rows, tallies 0, every mark 65,535.
+// Starting afresh: no shapes, places or rows, tallies 0, every mark 65,535; and no gap.
 // The one command that does not ask for a desk in order: it asks for the length of the marks buffer alone.
 ghost use mathlib.Core.Path.{_≡_};
 ghost use lib.IntN.{pos};

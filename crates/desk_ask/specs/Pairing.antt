@@ -11,7 +11,7 @@ use Rattle.pieces.specs.Pieces.{pieceAt, Taken}
 use Rattle.pieces.specs.Boxes.{PlacedPiece}
 use Rattle.verdict.specs.Answers.{nothing, Carries}
 use Rattle.verdict.specs.declared.Answer.{Answer}
-use Rattle.desk_state.specs.Desk.{Desk, InOrder}
+use Rattle.desk_state.specs.Desk.{Desk, gapOf, InOrder}
 use Rattle.desk_refusals.specs.Parts.{twoRefusals}
 use Rattle.pieces.specs.Index.{Indexed}
 use Rattle.pieces.specs.IndexLaws.{indexed-is}
@@ -46,5 +46,7 @@ module _ (d : Desk) (first second : ℤ) {a b : ℤ} (ea : a ≡ first) (eb : b 
       },
     )
 
-    pub paired : {r : Answer} → (r .number ≡ 0) × Carries (pieceAt (d .store) i) (pieceAt (d .store) j) r → Pairs d first second r
-    paired c = pair-answers (inr (λ f. f o, subst (Lowest (twoRefusals (d .store .places) first second)) e (pair-asked .refusal))) i-is j-is c
+    pub paired : {g : ℕ} {r : Answer} → g ≡ gapOf d → (r .number ≡ 0) × Carries g (pieceAt (d .store) i) (pieceAt (d .store) j) r → Pairs d first second r
+    paired {r = r} eg c =
+        pair-answers (inr (λ f. f o, subst (Lowest (twoRefusals (d .store .places) first second)) e (pair-asked .refusal))) i-is j-is
+        (c .0, subst (λ (g : ℕ). Carries g (pieceAt (d .store) i) (pieceAt (d .store) j) r) eg (c .1))

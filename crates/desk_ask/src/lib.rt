@@ -1,4 +1,4 @@
-// The pair question: the verdict of two different taken places of a desk in order, with its witnesses.
+// The pair question: the verdict of two different taken places of a desk in order by the desk's gap, with its witnesses.
 // The desk is only read.
 ghost use Rattle.desk_state.specs.Desk.{deskOf};
 ghost use Rattle.desk.specs.Commands.{Pairs};
@@ -6,6 +6,7 @@ use desk_refusals::asked::pair_refusal;
 use desk_state::desk_in_order;
 use pieces::index::index_of;
 use rows_right::row::verdict_of;
+use rows_tally::gap_of;
 use verdict::Answer;
 use verdict::refused;
 
@@ -29,5 +30,6 @@ pub fn pair(
     }
     let i = index_of(first, limits::PLACES);
     let j = index_of(second, limits::PLACES);
-    verdict_of(shapes, places, i, j)
+    let gap = gap_of(book);
+    verdict_of(gap, shapes, places, i, j)
 }

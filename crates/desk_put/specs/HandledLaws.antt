@@ -6,7 +6,7 @@ use Prim.Native.Nat.{ℕ, _<_}
 use lib.IntN.{ℤ}
 use Rattle.limits.specs.Limits
 use Rattle.rows.specs.Rows.{Handled, Cleared}
-use Rattle.rows_tally.specs.Tallies.{BookInOrder}
+use Rattle.rows_tally.specs.Tallies.{BookFollows}
 use Rattle.rows.specs.Handling.{rows-after-clearing, rows-after-handling}
 use Rattle.marks.specs.Marks.{OthersStayMarks, InPlaceMarks}
 use Rattle.marks.specs.Keys.{KeyedMarks}
@@ -15,7 +15,7 @@ use Rattle.pieces.specs.declared.placement.Placement.{Placement}
 use Rattle.pieces.specs.Pieces.{Store, storeOf, Sized, Taken, OthersStay, PiecesInOrder, axesOf, putIn, emptiedIn}
 use Rattle.pieces_box.specs.ShapeBox.{AllAsked}
 use Rattle.pieces_box.specs.KeysLaws.{all-asked}
-use Rattle.desk_state.specs.Desk.{Desk, InOrder, putAt, emptiedAt}
+use Rattle.desk_state.specs.Desk.{Desk, gapOf, InOrder, putAt, emptiedAt}
 use Rattle.desk_state.specs.Worked.{Worked}
 use Rattle.rows_right.specs.Right.{RowRight}
 use Rattle.desk_put.specs.PutLaws.{put-others, put-others-marks, put-taken, put-order, empty-others, empty-others-marks, empty-gone, empty-order}
@@ -34,16 +34,17 @@ module _ {d : Desk} {p : ℕ} {boxes : List ℤ} {x y z : List ℕ} (size : Size
   pub left-asked : AllAsked boxes (emptiedIn (d .store .places) p)
   left-asked = all-asked left-order (w .boxed)
 
-  pub emptied : {x′ y′ z′ rows book marks : List ℕ} → RenewedIn boxes (emptiedIn (d .store .places) p) p x y z x′ y′ z′ (d .marks) marks → Cleared p (d .rows) rows → BookInOrder rows book
+  pub emptied : {x′ y′ z′ rows book marks : List ℕ} → RenewedIn boxes (emptiedIn (d .store .places) p) p x y z x′ y′ z′ (d .marks) marks → Cleared p (d .rows) rows → BookFollows rows (d .book) book
       → Emptied d p (record { store = emptiedAt (d .store) p; rows = rows; book = book; marks = marks })
   emptied m c b = record {
     store = refl;
     rows = c;
+    gap = b .gap;
     order = record {
       pieces = left-order;
       marks = renewed-marks w refl left-order h (empty-others-marks (d .store) p) m (o .marks);
       rows = rows-after-clearing (empty-others (d .store) p) (empty-gone (d .store) p size h) c (o .rows);
-      book = b;
+      book = b .order;
     };
   }
 
@@ -65,18 +66,20 @@ module _ {d : Desk} {p : ℕ} {q : Placement} {places : List ℤ} (size : Sized 
   put-stays : OthersStayMarks p (axesOf (d .store)) (axesOf stored)
   put-stays = subst (λ (k : Store). OthersStayMarks p (axesOf (d .store)) (axesOf k)) stored-is (put-others-marks (d .store) p q)
 
-  pub put-down : {rows book marks : List ℕ} → InPlaceMarks (axesOf stored) marks → Handled (RowRight stored) (stored .places) p Limits.places (d .rows) rows → BookInOrder rows book
+  pub put-down : {rows book marks : List ℕ} → InPlaceMarks (axesOf stored) marks → Handled (RowRight (gapOf d) stored) (stored .places) p Limits.places (d .rows) rows → BookFollows rows (d .book) book
       → PutDown d p q (record { store = stored; rows = rows; book = book; marks = marks })
   put-down n h b = record {
     store = sym stored-is;
     taken = put-piece .taken;
     rows = h;
+    gap = b .gap;
     order = record {
       pieces = put-piece .order;
       marks = n;
       rows =
-          rows-after-handling (right-verdict stored) (subst (λ (k : Store). OthersStay p (d .store .places) (k .places)) stored-is (put-others (d .store) p q)) (put-piece .taken) h (m .order .rows);
-      book = b;
+          rows-after-handling (right-verdict (gapOf d) stored) (subst (λ (k : Store). OthersStay p (d .store .places) (k .places)) stored-is (put-others (d .store) p q))
+          (put-piece .taken) h (m .order .rows);
+      book = b .order;
     };
   }
 

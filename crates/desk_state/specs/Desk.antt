@@ -6,7 +6,7 @@ use lib.IntN.{ℤ}
 use Rattle.ints.specs.Bounds.{Within}
 use Rattle.limits.specs.Limits
 use Rattle.rows.specs.Rows.{RowsInOrder}
-use Rattle.rows_tally.specs.Tallies.{BookInOrder}
+use Rattle.rows_tally.specs.Tallies.{BookInOrder, gapIn, gapPut}
 use Rattle.marks.specs.Marks.{InPlaceMarks}
 use Rattle.pieces.specs.declared.placement.Placement.{Placement}
 use Rattle.pieces.specs.Pieces.{Store, storeOf, PiecesInOrder, axesOf, putIn, emptiedIn, loadedIn}
@@ -21,8 +21,13 @@ pub record Desk : Type 0 where
 abbrev pub deskOf : List ℤ → List ℤ → List ℕ → List ℕ → List ℕ → Desk
 deskOf shapes places rows book marks = record { store = storeOf shapes places; rows = rows; book = book; marks = marks }
 
+-- W6: "The desk and the pair question on lists take a gap g of 0 to 4,096 steps; the desk's serves places too": the desk's gap
+abbrev pub gapOf : Desk → ℕ
+gapOf d = gapIn (d .book)
+
 -- "A desk is in order when loaded shapes and taken places keep the ranges above, every taken place names a loaded shape, the marks are exactly those of the
 -- taken places in order with the right tail, each pair of taken places has a verdict 0 to 3 and no other pair has one, and the tallies count the rows."
+-- W6: "The order test asks that the gap is in range". The gap stands in the book, beside the tallies
 pub record InOrder (d : Desk) : Type 0 where
   pub pieces : PiecesInOrder (d .store)
   pub marks : InPlaceMarks (axesOf (d .store)) (d .marks)
@@ -30,6 +35,10 @@ pub record InOrder (d : Desk) : Type 0 where
   pub book : BookInOrder (d .rows) (d .book)
 
 -- ---- what a command stores
+-- W6: "An accepted setting stores its gap and changes nothing else"
+abbrev pub gapAt : Desk → ℕ → Desk
+gapAt d gap = record { store = d .store; rows = d .rows; book = gapPut (d .book) gap; marks = d .marks }
+
 -- "an offset of three numbers, each −65,536 to 65,536"
 pub record OffsetFits (x y z : ℤ) : Type 0 where
   pub on-x : Within Limits.shapeReach x

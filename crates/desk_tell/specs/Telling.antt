@@ -6,9 +6,9 @@ use lib.IntN.{ℤ}
 use Rattle.pieces.specs.declared.placement.Placement.{Placement}
 use Rattle.pieces.specs.declared.placement.Offset.{Offset}
 use Rattle.desk_state.specs.Desk.{Desk}
-use Rattle.desk.specs.Commands.{Started, Loads, Places, Moves, Removed, Does}
+use Rattle.desk.specs.Commands.{Started, Loads, Places, Moves, Removed, SetsGap, Does}
 use Rattle.desk.specs.declared.Command.{Command}
-use Rattle.desk.specs.declared.Command.the-variants.{Start, Load, Place, Move, Remove}
+use Rattle.desk.specs.declared.Command.the-variants.{Start, Load, Place, Move, Remove, Gap}
 use Rattle.desk.specs.declared.Outcome.{Outcome}
 
 does-is : (command c : Command) (numbers : List ℤ) (d after : Desk) (r : Outcome) → command ≡ c → Does c numbers d after r → Does command numbers d after r
@@ -29,3 +29,6 @@ module _ (command : Command) (numbers : List ℤ) {d after : Desk} {r : Outcome}
 
   pub does-remove : {place p : ℤ} → command ≡ Remove place → p ≡ place → Removed d p after r → Does command numbers d after r
   does-remove e ep h = does-is command _ numbers d after r e (subst (λ (i : ℤ). Removed d i after r) ep h)
+
+  pub does-gap : {gap g : ℤ} → command ≡ Gap gap → g ≡ gap → SetsGap d g after r → Does command numbers d after r
+  does-gap e eg h = does-is command _ numbers d after r e (subst (λ (i : ℤ). SetsGap d i after r) eg h)

@@ -5,6 +5,7 @@ ghost use Rattle.desk.specs.Commands.{Does};
 use desk::Command;
 use desk::Outcome;
 use desk::start::start;
+use desk_gap::set_gap;
 use desk_load::load;
 use desk_move::move_piece;
 use desk_place::place;
@@ -29,5 +30,6 @@ pub fn tell(
         Command::Place(p, q) => place(shapes, places, rows, book, marks, p, q),
         Command::Move(p, turn, o) => move_piece(shapes, places, rows, book, marks, p, turn, o),
         Command::Remove(p) => remove(shapes, places, rows, book, marks, p),
+        Command::Gap(steps) => set_gap(shapes, places, rows, book, marks, steps),
     }
 }

@@ -64,6 +64,10 @@ book = 16
 abbrev pub tallies : ℕ
 tallies = 4
 
+-- the book's cells: the tallies from 0 on (4 is kept for one more), and the gap (W6). 9 and 10 are kept; every other cell is 0
+abbrev pub gapCell : ℕ
+gapCell = 8
+
 -- what stands in a row of no pair; "The unused tail of a part holds 65,535."
 abbrev pub noRow : ℕ
 noRow = 255
@@ -94,7 +98,12 @@ shapeReach = 65536
 abbrev pub placedReach : ℕ
 placedReach = 131072
 
--- witnesses: "components within 2^39 in size"; "whole weights from 1 to 2^57". Nothing in code compares with these: the walk's own numbers stay below them
+-- W6: "a gap g of 0 to 4,096 steps"
+abbrev pub gapMost : ℕ
+gapMost = 4096
+
+-- witnesses: "components within 2^39 in size"; "whole weights from 1 to 2^57". W6 lets a direction grow to 2^40 where there is a gap; the walk's stay within 2^39 at
+-- every gap, so one limit serves. Nothing in code compares with these: the walk's own numbers stay below them
 abbrev pub directionReach : ℕ
 directionReach = 549755813888
 
@@ -186,3 +195,7 @@ countZero = 22
 
 abbrev pub manyCorners : ℕ
 manyCorners = 23
+
+-- W6: "Refusal 24: gap out of range, or set while a place is taken."
+abbrev pub gapRefused : ℕ
+gapRefused = 24

@@ -24,6 +24,7 @@ theSizes = record {
   marks = Limits.marks;
   book = Limits.book;
   tallies = Limits.tallies;
+  «gap_cell» = Limits.gapCell;
   «no_row» = Limits.noRow;
   «no_mark» = Limits.noMark;
 }
@@ -41,6 +42,7 @@ theRanges = record {
   steps = pos Limits.steps;
   «shape_reach» = pos Limits.shapeReach;
   «placed_reach» = pos Limits.placedReach;
+  «gap_most» = pos Limits.gapMost;
   «whole_digits» = Limits.wholeDigits;
   «part_digits» = Limits.partDigits;
   «most_hundredths» = Limits.mostHundredths;
@@ -52,5 +54,5 @@ theRefusals = record {
       Limits.done ∷ Limits.disorder ∷ Limits.shapeNumber ∷ Limits.listLength ∷ Limits.cornerRange ∷ Limits.shapeLoaded ∷ Limits.shapeMissing
       ∷ Limits.placeNumber ∷ Limits.placeTaken ∷ Limits.placeEmpty ∷ Limits.turnNumber ∷ Limits.offsetRange ∷ Limits.samePlace ∷ Limits.shortRoom ∷ [];
   text = Limits.lengthForm ∷ Limits.lengthRange ∷ Limits.notFinite ∷ Limits.notWhole ∷ Limits.floatRange ∷ Limits.sizeZero ∷ Limits.placedRange ∷ [];
-  files = Limits.fileLength ∷ Limits.countZero ∷ Limits.manyCorners ∷ [];
+  requests = Limits.fileLength ∷ Limits.countZero ∷ Limits.manyCorners ∷ Limits.gapRefused ∷ [];
 }

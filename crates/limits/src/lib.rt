@@ -35,6 +35,9 @@ pub const BOOK: usize = 16;
 
 pub const TALLIES: usize = 4;
 
+// The book's cells: the tallies from 0 on (4 is kept for one more), and the gap (W6). 9 and 10 are kept; every other cell is 0.
+pub const GAP_CELL: usize = 8;
+
 // What stands where there is nothing: in a row of no pair, and in the unused tail of an axis's marks.
 pub const NO_ROW: u8 = 255;
 
@@ -55,6 +58,9 @@ pub const STEPS: i32 = 64;
 pub const SHAPE_REACH: i32 = 65536;
 
 pub const PLACED_REACH: i32 = 131072;
+
+// W6: the widest gap.
+pub const GAP_MOST: i32 = 4096;
 
 // A typed length: how many digits before and after the separator, and the most in hundredths of a millimetre.
 pub const WHOLE_DIGITS: usize = 4;
@@ -113,6 +119,8 @@ pub const COUNT_ZERO: u8 = 22;
 
 pub const MANY_CORNERS: u8 = 23;
 
+pub const GAP_REFUSED: u8 = 24;
+
 struct Sizes {
     shapes: usize,
     corners: usize,
@@ -128,6 +136,7 @@ struct Sizes {
     marks: usize,
     book: usize,
     tallies: usize,
+    gap_cell: usize,
     no_row: u8,
     no_mark: u16,
 }
@@ -136,6 +145,7 @@ struct Ranges {
     steps: i32,
     shape_reach: i32,
     placed_reach: i32,
+    gap_most: i32,
     whole_digits: usize,
     part_digits: usize,
     most_hundredths: u32,
@@ -151,7 +161,7 @@ struct Verdicts {
 struct Refusals {
     desk: [u8; 14],
     text: [u8; 7],
-    files: [u8; 3],
+    requests: [u8; 4],
 }
 
 // The sizes of this file are those of specs/.
@@ -173,6 +183,7 @@ fn tied_sizes() -> Sizes
         marks: MARKS,
         book: BOOK,
         tallies: TALLIES,
+        gap_cell: GAP_CELL,
         no_row: NO_ROW,
         no_mark: NO_MARK,
     }
@@ -198,6 +209,7 @@ fn tied_ranges() -> Ranges
         steps: STEPS,
         shape_reach: SHAPE_REACH,
         placed_reach: PLACED_REACH,
+        gap_most: GAP_MOST,
         whole_digits: WHOLE_DIGITS,
         part_digits: PART_DIGITS,
         most_hundredths: MOST_HUNDREDTHS,
@@ -234,6 +246,6 @@ fn tied_refusals() -> Refusals
             SIZE_ZERO,
             PLACED_RANGE,
         ],
-        files: [FILE_LENGTH, COUNT_ZERO, MANY_CORNERS],
+        requests: [FILE_LENGTH, COUNT_ZERO, MANY_CORNERS, GAP_REFUSED],
     }
 }

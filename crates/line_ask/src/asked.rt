@@ -130,25 +130,31 @@ fn all_rows(
 ) -> usize {
     let next = out::word(out, at, b"0");
     let next = out::next_count(out, next, total(book));
-    let next = each_row(rows, false, out, next);
+    let next = each_row(rows, false, 0, out, next);
     out::end(out, next)
 }
 
-// Every cell in turn, in words or in numbers.
-pub fn each_row(rows: &[u8; limits::ROWS], in_words: bool, out: &mut [u8], at: usize) -> usize {
+// Every cell in turn, in words or in numbers. The words are by the gap; the numbers are the same whatever it is.
+pub fn each_row(
+    rows: &[u8; limits::ROWS],
+    in_words: bool,
+    gap: usize,
+    out: &mut [u8],
+    at: usize,
+) -> usize {
     let mut next = at;
     let mut k: usize = 0;
     while k < limits::ROWS {
-        next = row(k, rows[k], in_words, out, next);
+        next = row(k, rows[k], in_words, gap, out, next);
         k += 1;
     }
     next
 }
 
 // In numbers a row is its two places and its verdict. A cell that has no row is passed over.
-fn row(k: usize, v: u8, in_words: bool, out: &mut [u8], at: usize) -> usize {
+fn row(k: usize, v: u8, in_words: bool, gap: usize, out: &mut [u8], at: usize) -> usize {
     if in_words {
-        return contact(k, wide_byte(v), out, at);
+        return contact(k, wide_byte(v), gap, out, at);
     }
     if v == limits::NO_ROW {
         return at;

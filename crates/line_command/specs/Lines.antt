@@ -14,8 +14,8 @@ use Rattle.line_spoil.specs.Cells.{CellOf}
 use Rattle.line_spoil.specs.declared.Cell.{Cell}
 use Rattle.line_command.specs.Names.{lengthWord, lineWord, listsWord, scanWord, showWord, blankWord, roomWord, lendWord, spoilWord, loadWord}
 use Rattle.line_command.specs.Names.{stlWord, triangleWord, loadStlWord}
-use Rattle.line_command.specs.Names.{placeWord, moveWord, removeWord, pairWord, freshWord, contactsWord, rowsWord, talliesWord, marksWord, reportWord}
-use Rattle.desk.specs.declared.Command.the-variants.{Start, Load, Place, Move, Remove}
+use Rattle.line_command.specs.Names.{placeWord, moveWord, removeWord, gapWord, pairWord, freshWord, contactsWord, rowsWord, talliesWord, marksWord, reportWord}
+use Rattle.desk.specs.declared.Command.the-variants.{Start, Load, Place, Move, Remove, Gap}
 use Rattle.line_command.specs.declared.Line.{Line}
 use Rattle.line_command.specs.declared.Line.the-variants.{Tell, Ask, Spoil, LoadFile, Other}
 use Rattle.line_command.specs.declared.Asked.the-variants.{Pair, Contacts, Rows, Tallies, Marks, Report}
@@ -52,6 +52,10 @@ moveOf numbers = takes 5 numbers (Tell (Move (at numbers 0) (at numbers 1) (reco
 abbrev pub removeOf : List ℤ → Line
 removeOf numbers = takes 1 numbers (Tell (Remove (at numbers 0)) 1)
 
+-- `gap G`
+abbrev pub settingOf : List ℤ → Line
+settingOf numbers = takes 1 numbers (Tell (Gap (at numbers 0)) 1)
+
 -- `pair P Q`
 abbrev pub pairOf : List ℤ → Line
 pairOf numbers = takes 2 numbers (Ask (Pair (at numbers 0) (at numbers 1)))
@@ -63,6 +67,7 @@ deskWords numbers =
     ∷ (placeWord, placeOf numbers)
     ∷ (moveWord, moveOf numbers)
     ∷ (removeWord, removeOf numbers)
+    ∷ (gapWord, settingOf numbers)
     ∷ (pairWord, pairOf numbers)
     ∷ (freshWord, takes 0 numbers (Tell Start 0))
     ∷ (contactsWord, takes 0 numbers (Ask Contacts))

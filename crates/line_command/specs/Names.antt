@@ -67,6 +67,10 @@ moveWord = 109 ∷ 111 ∷ 118 ∷ 101 ∷ []
 abbrev pub removeWord : List ℕ
 removeWord = 114 ∷ 101 ∷ 109 ∷ 111 ∷ 118 ∷ 101 ∷ []
 
+-- "gap"
+abbrev pub gapWord : List ℕ
+gapWord = 103 ∷ 97 ∷ 112 ∷ []
+
 -- "pair"
 abbrev pub pairWord : List ℕ
 pairWord = 112 ∷ 97 ∷ 105 ∷ 114 ∷ []

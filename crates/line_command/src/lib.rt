@@ -4,7 +4,7 @@ ghost use mathlib.Core.Path.{_≡_};
 ghost use mathlib.Core.Bool.{true};
 ghost use mathlib.Core.Logic.{_↔_};
 ghost use Rattle.line.specs.Behind.{behind, Finds};
-ghost use Rattle.line_command.specs.Lines.{takes, loadOf, placeOf, moveOf, removeOf, pairOf, deskWords, Unknowing, OfDesk, OfWord, PassedOver, CommandOf, LineSays};
+ghost use Rattle.line_command.specs.Lines.{takes, loadOf, placeOf, moveOf, removeOf, settingOf, pairOf, deskWords, Unknowing, OfDesk, OfWord, PassedOver, CommandOf, LineSays};
 use desk::Command;
 use line::lent::MOST_BYTES;
 use line::names::name_of;
@@ -57,6 +57,8 @@ const PLACE_NUMBERS: usize = 6;
 const MOVE_NUMBERS: usize = 5;
 
 const REMOVE_NUMBERS: usize = 1;
+
+const GAP_NUMBERS: usize = 1;
 
 const PAIR_NUMBERS: usize = 2;
 
@@ -129,19 +131,20 @@ fn numbered(word: &[u8], numbers: &[i32]) -> Line
 {
     match name_of(
         word,
-        b" load place move remove pair fresh contacts rows tallies marks report",
+        b" load place move remove gap pair fresh contacts rows tallies marks report",
     ) {
         0 => load_of(numbers),
         1 => place_of(numbers),
         2 => move_of(numbers),
         3 => remove_of(numbers),
-        4 => pair_of(numbers),
-        5 => alone(numbers, Line::Tell(Command::Start, 0)),
-        6 => alone(numbers, Line::Ask(Asked::Contacts)),
-        7 => alone(numbers, Line::Ask(Asked::Rows)),
-        8 => alone(numbers, Line::Ask(Asked::Tallies)),
-        9 => alone(numbers, Line::Ask(Asked::Marks)),
-        10 => alone(numbers, Line::Ask(Asked::Report)),
+        4 => setting_of(numbers),
+        5 => pair_of(numbers),
+        6 => alone(numbers, Line::Tell(Command::Start, 0)),
+        7 => alone(numbers, Line::Ask(Asked::Contacts)),
+        8 => alone(numbers, Line::Ask(Asked::Rows)),
+        9 => alone(numbers, Line::Ask(Asked::Tallies)),
+        10 => alone(numbers, Line::Ask(Asked::Marks)),
+        11 => alone(numbers, Line::Ask(Asked::Report)),
         _ => Line::Other(Other::Unknown),
     }
 }
@@ -206,6 +209,16 @@ fn remove_of(numbers: &[i32]) -> Line
         return Line::Other(Other::Unknown);
     }
     Line::Tell(Command::Remove(numbers[0]), REMOVE_NUMBERS)
+}
+
+// `gap G`
+fn setting_of(numbers: &[i32]) -> Line
+    ensures { λ r. ⌜ r ≡ settingOf (now (numbers .entry)) ⌝ }
+{
+    if numbers.len() != GAP_NUMBERS {
+        return Line::Other(Other::Unknown);
+    }
+    Line::Tell(Command::Gap(numbers[0]), GAP_NUMBERS)
 }
 
 // `pair P Q`

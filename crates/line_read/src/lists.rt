@@ -8,7 +8,10 @@ use line::parts::not_negative;
 use line::parts::numbers_behind;
 use line_verdict::pair_answer;
 
-// `lists N n .. M n ..`: every word is a number, and each of the two counts is kept.
+// The gap is one number, and the lists stand behind it.
+const LISTS: usize = 1;
+
+// `lists G N n .. M n ..`: every word is a number, the gap comes first, and each of the two counts is kept.
 pub fn lists(line: &[u8], end: usize, room: &mut [i32], out: &mut [u8], at: usize) -> usize {
     let Index::At(n) = numbers_behind(line, end, room) else {
         return out::wrong(out, at);
@@ -16,9 +19,9 @@ pub fn lists(line: &[u8], end: usize, room: &mut [i32], out: &mut [u8], at: usiz
     both_lists(&room[0..n], out, at)
 }
 
-// The line's numbers: one list behind the other, and nothing behind the second.
+// The line's numbers: the gap, one list behind the other, and nothing behind the second.
 fn both_lists(numbers: &[i32], out: &mut [u8], at: usize) -> usize {
-    let Index::At(first) = list_end(numbers, 0) else {
+    let Index::At(first) = list_end(numbers, LISTS) else {
         return out::wrong(out, at);
     };
     let Index::At(second) = list_end(numbers, first) else {
@@ -28,7 +31,11 @@ fn both_lists(numbers: &[i32], out: &mut [u8], at: usize) -> usize {
         return out::wrong(out, at);
     }
     pair_answer(
-        verdict::pair_of_lists(&numbers[1..first], &numbers[first + 1..second]),
+        verdict::pair_of_lists(
+            numbers[0],
+            &numbers[LISTS + 1..first],
+            &numbers[first + 1..second],
+        ),
         out,
         at,
     )

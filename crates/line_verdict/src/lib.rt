@@ -43,9 +43,10 @@ fn carried(count: usize, pairs: [space::Pair; MOST_PAIRS], out: &mut [u8], at: u
     next
 }
 
-// A pair: the corner of the first piece, the corner of the second, and the weight.
+// A pair: the corner of the first piece, the corner of the second, the corner of the gap's cube, and the weight.
 fn weighed(p: space::Pair, out: &mut [u8], at: usize) -> usize {
     let next = out::next_count(out, at, p.first);
     let next = out::next_count(out, next, p.second);
+    let next = out::next_count(out, next, p.cube);
     out::next_number(out, next, p.weight)
 }

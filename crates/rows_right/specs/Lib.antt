@@ -1,2 +1,4 @@
+pub mod NoGap
+pub mod NoGapLaws
 pub mod Right
 pub mod RowLaws

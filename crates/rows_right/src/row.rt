@@ -1,11 +1,11 @@
 // The rows of a handled piece: each worked out anew, by the boxes first and else by the verdict of the two pieces.
-// The lower place is the first piece. The tallies follow each row that is put.
+// The lower place is the first piece, which the gap widens. The tallies follow each row that is put.
 ghost use mathlib.Core.Path.{_≡_};
-ghost use Prim.Native.Nat.{_<_};
+ghost use Prim.Native.Nat.{_<_, _≤_};
 ghost use Rattle.limits.specs.Limits;
 ghost use Rattle.marks.specs.Keys.{KeyedMarks};
 ghost use Rattle.rows.specs.Rows.{Handled};
-ghost use Rattle.rows_tally.specs.Tallies.{BookInOrder};
+ghost use Rattle.rows_tally.specs.Tallies.{BookInOrder, BookFollows, gapIn};
 ghost use Rattle.pieces.specs.Pieces.{storeOf, axesOf, pieceAt};
 ghost use Rattle.pieces.specs.Boxes.{PlacedPiece};
 ghost use Rattle.verdict.specs.Answers.{Carries};
@@ -15,12 +15,14 @@ use pieces::placed::piece_count;
 use pieces::placed::piece_numbers;
 use pieces::taking::is_taken;
 use pieces_box::apart::boxes_apart;
+use rows_tally::gap_of;
 use rows_tally::put_row;
 use verdict::Answer;
 use verdict::verdict;
 
 // The right row of two taken places; x, y and z are the keys of the marks.
 fn row_of(
+    gap: u32,
     shapes: &[i32; limits::SHAPES_LENGTH],
     places: &[i32; limits::PLACES_LENGTH],
     x: &[u32; limits::AXIS_MARKS],
@@ -30,34 +32,36 @@ fn row_of(
     high: usize,
 ) -> u8
     requires { ⌜ PlacedPiece (storeOf (now shapes) (now places)) low × PlacedPiece (storeOf (now shapes) (now places)) high ⌝ }
-    requires { ⌜ KeyedMarks (axesOf (storeOf (now shapes) (now places))) (now x) (now y) (now z) ⌝ }
-    ensures { λ r. ⌜ RowRight (storeOf (now (shapes .entry)) (now (places .entry))) low high r ⌝ }
+    requires { ⌜ (gap ≤ Limits.gapMost) × KeyedMarks (axesOf (storeOf (now shapes) (now places))) (now x) (now y) (now z) ⌝ }
+    ensures { λ r. ⌜ RowRight gap (storeOf (now (shapes .entry)) (now (places .entry))) low high r ⌝ }
 {
-    if boxes_apart(x, y, z, low, high) {
+    if boxes_apart(gap, x, y, z, low, high) {
         return limits::APART;
     }
-    let answer = verdict_of(shapes, places, low, high);
+    let answer = verdict_of(gap, shapes, places, low, high);
     answer.verdict
 }
 
 // The verdict of the pieces at two taken places, with its witnesses.
 pub fn verdict_of(
+    gap: u32,
     shapes: &[i32; limits::SHAPES_LENGTH],
     places: &[i32; limits::PLACES_LENGTH],
     first: usize,
     second: usize,
 ) -> Answer
     requires { ⌜ PlacedPiece (storeOf (now shapes) (now places)) first × PlacedPiece (storeOf (now shapes) (now places)) second ⌝ }
-    ensures { λ r. ⌜ (r .number ≡ 0) × Carries (pieceAt (storeOf (now (shapes .entry)) (now (places .entry))) first) (pieceAt (storeOf (now (shapes .entry)) (now (places .entry))) second) r ⌝ }
+    requires { ⌜ gap ≤ Limits.gapMost ⌝ }
+    ensures { λ r. ⌜ (r .number ≡ 0) × Carries gap (pieceAt (storeOf (now (shapes .entry)) (now (places .entry))) first) (pieceAt (storeOf (now (shapes .entry)) (now (places .entry))) second) r ⌝ }
 {
     let n = piece_count(shapes, places, first);
     let m = piece_count(shapes, places, second);
     let a = piece_numbers(shapes, places, first);
     let b = piece_numbers(shapes, places, second);
-    verdict(&a[..3 * n], &b[..3 * m])
+    verdict(gap, &a[..3 * n], &b[..3 * m])
 }
 
-// The rows of the piece at a place with every other taken place; x, y and z are the keys of the marks.
+// The rows of the piece at a place with every other taken place; x, y and z are the keys of the marks. The gap is the book's, read once for all of them.
 pub fn put_rows(
     shapes: &[i32; limits::SHAPES_LENGTH],
     places: &[i32; limits::PLACES_LENGTH],
@@ -70,18 +74,21 @@ pub fn put_rows(
 )
     requires { ⌜ PlacedPiece (storeOf (now shapes) (now places)) place × BookInOrder (now rows) (now book) ⌝ }
     requires { ⌜ KeyedMarks (axesOf (storeOf (now shapes) (now places))) (now x) (now y) (now z) ⌝ }
-    ensures rows { λ _. ⌜ Handled (RowRight (storeOf (now (shapes .entry)) (now (places .entry)))) (now (places .entry)) place Limits.places (now (rows .entry)) (now (rows .exit)) ⌝ }
-    ensures book { λ _. ⌜ BookInOrder (now (rows .exit)) (now (book .exit)) ⌝ }
+    ensures rows { λ _. ⌜ Handled (RowRight (gapIn (now (book .entry))) (storeOf (now (shapes .entry)) (now (places .entry))))
+        (now (places .entry)) place Limits.places (now (rows .entry)) (now (rows .exit)) ⌝ }
+    ensures book { λ _. ⌜ BookFollows (now (rows .exit)) (now (book .entry)) (now (book .exit)) ⌝ }
 {
+    let gap = gap_of(book);
     let mut other = 0;
     while other < limits::PLACES {
-        put_pair(shapes, places, rows, book, x, y, z, place, other);
+        put_pair(gap, shapes, places, rows, book, x, y, z, place, other);
         other += 1;
     }
 }
 
 // The row of one other place, if it is another and taken.
 fn put_pair(
+    gap: u32,
     shapes: &[i32; limits::SHAPES_LENGTH],
     places: &[i32; limits::PLACES_LENGTH],
     rows: &mut [u8; limits::ROWS],
@@ -93,18 +100,18 @@ fn put_pair(
     other: usize,
 )
     requires { ⌜ PlacedPiece (storeOf (now shapes) (now places)) place × BookInOrder (now rows) (now book) × (other < Limits.places) ⌝ }
-    requires { ⌜ KeyedMarks (axesOf (storeOf (now shapes) (now places))) (now x) (now y) (now z) ⌝ }
-    ensures rows { λ _. ⌜ OneMore (storeOf (now (shapes .entry)) (now (places .entry))) place other (now (rows .entry)) (now (rows .exit)) ⌝ }
-    ensures book { λ _. ⌜ BookInOrder (now (rows .exit)) (now (book .exit)) ⌝ }
+    requires { ⌜ (gap ≤ Limits.gapMost) × KeyedMarks (axesOf (storeOf (now shapes) (now places))) (now x) (now y) (now z) ⌝ }
+    ensures rows { λ _. ⌜ OneMore gap (storeOf (now (shapes .entry)) (now (places .entry))) place other (now (rows .entry)) (now (rows .exit)) ⌝ }
+    ensures book { λ _. ⌜ BookFollows (now (rows .exit)) (now (book .entry)) (now (book .exit)) ⌝ }
 {
     if is_taken(places, other) {
         if other < place {
-            let v = row_of(shapes, places, x, y, z, other, place);
+            let v = row_of(gap, shapes, places, x, y, z, other, place);
             put_row(rows, book, other, place, v);
             return;
         }
         if place < other {
-            let v = row_of(shapes, places, x, y, z, place, other);
+            let v = row_of(gap, shapes, places, x, y, z, place, other);
             put_row(rows, book, place, other, v);
         }
     }

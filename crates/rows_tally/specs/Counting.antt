@@ -1,5 +1,5 @@
 -- Laws of the tallies: one row more and one line more, and the book that counts them.
--- Two books that are in order for the same rows are equal, and a desk started afresh has its book in order.
+-- Two books that are in order for the same rows and have one gap are equal, and a desk started afresh has its book in order.
 use Prim.Native.Nat.{ℕ, zero, suc, _+_, _≤_, _<_}
 use mathlib.Core.Path.{_≡_, sym, _∙_}
 use mathlib.Core.List.{List, [], _∷_}
@@ -11,8 +11,8 @@ use borrow.Author.Count.{below-more}
 use Rattle.limits.specs.Limits
 use Rattle.rows.specs.Rows.{cell, Verdict}
 use Rattle.ints.specs.Counts.{oneIf, oneIf≤, countOf, count-fill}
-use Rattle.rows_tally.specs.Tallies.{BookInOrder}
-use Rattle.ints.specs.Cases.{by-less}
+use Rattle.rows_tally.specs.Tallies.{BookInOrder, gapIn, gapPut}
+use Rattle.ints.specs.Cases.{by-less, by-same}
 
 -- one row more
 pub count-more : (v : ℕ) (l : List ℕ) (i : ℕ) → i < length l → countOf v (take (suc i) l) ≡ countOf v (take i l) + oneIf (eqb (getD l i 0) v)
@@ -66,19 +66,43 @@ book-more {v} {n} {rows} {book} h e b =
       rest = λ k g. getD-set-other book v k n 0 (λ q. omega arith) ∙ b .rest k (omega arith);
     }
 
--- one book counts the rows
-pub book-once : {rows a b : List ℕ} → BookInOrder rows a → BookInOrder rows b → a ≡ b
-book-once {rows} {a} {b} p q =
+-- one book counts the rows and has this gap
+pub book-once : {rows a b : List ℕ} → BookInOrder rows a → BookInOrder rows b → gapIn a ≡ gapIn b → a ≡ b
+book-once {rows} {a} {b} p q g =
     ext-getD 0 a b (p .size ∙ sym (q .size))
     (λ k _.
     by-less k Limits.tallies
     (λ h. p .counts k h ∙ sym (q .counts k h))
-    (λ h. p .rest k h ∙ sym (q .rest k h)))
+    (λ h.
+    by-same k Limits.gapCell
+    (λ e. rw e g)
+    (λ f. p .rest k h f ∙ sym (q .rest k h f))))
+
+-- ---- a book whose tallies are counted, and no gap in it yet; and one with a gap put into it
+pub counted-order : {v : ℕ} {rows book : List ℕ} → v ≡ Limits.tallies → BookTo v rows book → BookInOrder rows book
+counted-order e b = record {
+  size = b .size;
+  counts = λ w h. b .counts w (omega arith);
+  gap = omega (arith, b .rest Limits.gapCell (omega arith));
+  rest = λ k h _. b .rest k (omega arith);
+}
+
+pub gap-is : {rows book : List ℕ} {gap : ℕ} → BookInOrder rows book → gapIn (gapPut book gap) ≡ gap
+gap-is {rows} {book} {gap} b = getD-set-same book Limits.gapCell gap 0 (omega (arith, b .size))
+
+pub gap-order : {rows book : List ℕ} {gap : ℕ} → gap ≤ Limits.gapMost → BookInOrder rows book → BookInOrder rows (gapPut book gap)
+gap-order {rows} {book} {gap} h b = record {
+  size = length-set book Limits.gapCell gap ∙ b .size;
+  counts = λ v l. getD-set-other book Limits.gapCell v gap 0 (λ e. omega arith) ∙ b .counts v l;
+  gap = omega (arith, gap-is {gap = gap} b);
+  rest = λ k l f. getD-set-other book Limits.gapCell k gap 0 f ∙ b .rest k l f;
+}
 
 -- ---- a desk started afresh
 pub book-started : BookInOrder (replicate Limits.rows Limits.noRow) (replicate Limits.book 0)
 book-started = record {
   size = length-replicate {A = ℕ} Limits.book 0;
   counts = λ v h. zero-at Limits.book v ∙ sym (count-fill v Limits.noRow Limits.rows (λ e. omega arith));
-  rest = λ k h. zero-at Limits.book k;
+  gap = omega (arith, zero-at Limits.book Limits.gapCell);
+  rest = λ k h _. zero-at Limits.book k;
 }

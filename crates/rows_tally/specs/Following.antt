@@ -13,7 +13,7 @@ use Rattle.ints.specs.Counts.{oneIf, countOf, hit-self, count-pos}
 use Rattle.limits.specs.Limits
 use Rattle.rows.specs.Rows.{Verdict}
 use Rattle.rows_tally.specs.Counting.{count-most}
-use Rattle.rows_tally.specs.Tallies.{BookInOrder, Counted}
+use Rattle.rows_tally.specs.Tallies.{BookInOrder, BookFollows, gapIn, Counted}
 
 -- ---- a book with one row more or less
 apart : {v w : ℕ} → (w ≡ v → ⊥) → oneIf (eqb v w) ≡ 0
@@ -59,9 +59,15 @@ module _ {rows book : List ℕ} (k : ℕ) (h : k < length rows) (b : BookInOrder
   tally-room c v w =
       omega (arith, b .counts v w, c .counts v w, count-set v rows k v h, hit-self v, count-most v (set rows k v), length-set rows k v)
 
-  pub book-follows : {less after : List ℕ} (v : ℕ) → Counted (getD rows k 0) less book → Counted v less after → BookInOrder (set rows k v) after
-  book-follows v c d = record {
-    size = d .size ∙ sym (c .size) ∙ b .size;
-    counts = λ w l. omega (arith, b .counts w l, c .counts w l, d .counts w l, count-set w rows k v h);
-    rest = λ i g. d .rest i g ∙ sym (c .rest i g) ∙ b .rest i g;
-  }
+  pub book-follows : {less after : List ℕ} (v : ℕ) → Counted (getD rows k 0) less book → Counted v less after → BookFollows (set rows k v) book after
+  book-follows {less} {after} v c d =
+      let same : gapIn after ≡ gapIn book = d .rest Limits.gapCell (omega arith) ∙ sym (c .rest Limits.gapCell (omega arith)) in
+      record {
+        order = record {
+          size = d .size ∙ sym (c .size) ∙ b .size;
+          counts = λ w l. omega (arith, b .counts w l, c .counts w l, d .counts w l, count-set w rows k v h);
+          gap = omega (arith, same, b .gap);
+          rest = λ i g f. d .rest i g ∙ sym (c .rest i g) ∙ b .rest i g f;
+        };
+        gap = same;
+      }

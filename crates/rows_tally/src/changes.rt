@@ -1,11 +1,11 @@
 // Rows changed together with the tallies that count them: what a cell held is taken out of its tally, what it holds now is put into its own.
-// A book that was in order is in order again, so that no command counts afresh.
+// A book that was in order is in order again, with the gap that it had, so that no command counts afresh.
 ghost use mathlib.Core.Path.{_≡_};
 ghost use Prim.Native.Nat.{_<_};
 ghost use lib.ListN.{length, getD, set};
 ghost use Rattle.limits.specs.Limits;
 ghost use Rattle.rows.specs.Rows.{Verdict, Cleared, RowPut};
-ghost use Rattle.rows_tally.specs.Tallies.{BookInOrder, Counted};
+ghost use Rattle.rows_tally.specs.Tallies.{BookInOrder, BookFollows, Counted};
 use crate::sized_book;
 use rows::sized_rows;
 use rows::wide;
@@ -20,7 +20,7 @@ pub fn put_row(
 )
     requires { ⌜ (low < high) × (high < Limits.places) × BookInOrder (now rows) (now book) ⌝ }
     ensures row { λ _. ⌜ RowPut low high v (now (rows .entry)) (now (rows .exit)) ⌝ }
-    ensures book { λ _. ⌜ BookInOrder (now (rows .exit)) (now (book .exit)) ⌝ }
+    ensures book { λ _. ⌜ BookFollows (now (rows .exit)) (now (book .entry)) (now (book .exit)) ⌝ }
 {
     set_cell(rows, book, low * limits::PLACES + high, v);
 }
@@ -29,7 +29,7 @@ pub fn put_row(
 pub fn clear_place(rows: &mut [u8; limits::ROWS], book: &mut [u32; limits::BOOK], place: usize)
     requires { ⌜ (place < Limits.places) × BookInOrder (now rows) (now book) ⌝ }
     ensures rows { λ _. ⌜ Cleared place (now (rows .entry)) (now (rows .exit)) ⌝ }
-    ensures book { λ _. ⌜ BookInOrder (now (rows .exit)) (now (book .exit)) ⌝ }
+    ensures book { λ _. ⌜ BookFollows (now (rows .exit)) (now (book .entry)) (now (book .exit)) ⌝ }
 {
     let mut other: usize = 0;
     while other < limits::PLACES {
@@ -43,7 +43,7 @@ pub fn clear_place(rows: &mut [u8; limits::ROWS], book: &mut [u32; limits::BOOK]
 fn set_cell(rows: &mut [u8; limits::ROWS], book: &mut [u32; limits::BOOK], k: usize, v: u8)
     requires { ⌜ (k < Limits.rows) × BookInOrder (now rows) (now book) ⌝ }
     ensures rows { λ _. ⌜ (length (now (rows .entry)) ≡ Limits.rows) × (now (rows .exit) ≡ set (now (rows .entry)) k v) ⌝ }
-    ensures book { λ _. ⌜ BookInOrder (now (rows .exit)) (now (book .exit)) ⌝ }
+    ensures book { λ _. ⌜ BookFollows (now (rows .exit)) (now (book .entry)) (now (book .exit)) ⌝ }
 {
     sized_rows(rows);
     let old = rows[k];

@@ -1,5 +1,5 @@
 // The tallies of a desk as a lent array, its book (document 01, "Rows"): whether they count the rows, counted afresh, and followed as rows change.
-// A verdict is counted in the cell of its number; the rest of the book is 0.
+// A verdict is counted in the cell of its number; the gap of W6 has a cell of its own, and the rest of the book is 0.
 ghost use mathlib.Core.Path.{_≡_};
 ghost use Prim.Native.Nat.{_+_, _<_};
 ghost use lib.Dec.{eqb};
@@ -8,7 +8,7 @@ ghost use Rattle.limits.specs.Limits;
 ghost use Rattle.limits.specs.Decides.{Decides};
 ghost use Rattle.ints.specs.Counts.{oneIf, countOf};
 ghost use Rattle.rows.specs.Rows.{cell};
-ghost use Rattle.rows_tally.specs.Tallies.{BookInOrder};
+ghost use Rattle.rows_tally.specs.Tallies.{BookInOrder, gapIn, gapPut};
 use rows::sized_rows;
 
 mod changes;
@@ -16,12 +16,33 @@ mod changes;
 pub use changes::clear_place;
 pub use changes::put_row;
 
-// Whether the tallies count the rows, and the rest of the book is 0.
+// The gap that a book holds.
+pub fn gap_of(book: &[u32; limits::BOOK]) -> u32
+    ensures { λ r. ⌜ r ≡ gapIn (now (book .entry)) ⌝ }
+{
+    sized_book(book);
+    book[limits::GAP_CELL]
+}
+
+// The gap of a book set.
+pub fn put_gap(book: &mut [u32; limits::BOOK], gap: u32)
+    ensures { λ _. ⌜ now (book .exit) ≡ gapPut (now (book .entry)) gap ⌝ }
+{
+    sized_book(book);
+    book[limits::GAP_CELL] = gap;
+}
+
+// Whether the tallies count the rows, the gap is in range, and the rest of the book is 0.
 pub fn book_in_order(rows: &[u8; limits::ROWS], book: &[u32; limits::BOOK]) -> bool
     ensures { λ r. ⌜ Decides r (BookInOrder (now (rows .entry)) (now (book .entry))) ⌝ }
 {
+    let gap = gap_of(book);
+    if (limits::GAP_MOST as u32) < gap {
+        return false;
+    }
     let mut right = [0u32; limits::BOOK];
     recount(rows, &mut right);
+    put_gap(&mut right, gap);
     same_book(book, &right)
 }
 
@@ -41,7 +62,7 @@ fn same_book(a: &[u32; limits::BOOK], b: &[u32; limits::BOOK]) -> bool
     true
 }
 
-// The tallies counted afresh, whatever the book held.
+// The tallies counted afresh, and no gap, whatever the book held.
 fn recount(rows: &[u8; limits::ROWS], book: &mut [u32; limits::BOOK])
     ensures { λ _. ⌜ BookInOrder (now (rows .entry)) (now (book .exit)) ⌝ }
 {

@@ -14,11 +14,11 @@ use Rattle.ints.specs.Cases.{by-less}
 use Rattle.runs.specs.Log.{isHeld, Plan}
 use Rattle.runs.specs.Afresh.{pieceOf, RowOf, PairIn, Afresh}
 
-pub row-once : (A B : List ℤ) {u v : ℕ} → RowOf A B u → RowOf A B v → u ≡ v
-row-once A B (inl a) (inl b) = a .0 ∙ sym (b .0)
-row-once A B (inl a) (inr b) = absurd (b .0 (a .1))
-row-once A B (inr a) (inl b) = absurd (a .0 (b .1))
-row-once A B (inr a) (inr b) = verdict-once (a .1) (b .1)
+pub row-once : (g : ℕ) (A B : List ℤ) {u v : ℕ} → RowOf g A B u → RowOf g A B v → u ≡ v
+row-once g A B (inl a) (inl b) = a .0 ∙ sym (b .0)
+row-once g A B (inl a) (inr b) = absurd (b .0 (a .1))
+row-once g A B (inr a) (inl b) = absurd (a .0 (b .1))
+row-once g A B (inr a) (inr b) = verdict-once (a .1) (b .1)
 
 by-held : {C : Type 0} (b : Bool) → (T b → C) → ((T b → ⊥) → C) → C
 by-held false f g = g (λ h. h)
@@ -41,5 +41,5 @@ afresh-once {plan} {a} {b} p q =
     rows-once (p .size) (q .size)
     (λ low high h k.
     by-pair-in plan low high
-    (λ o. row-once (pieceOf plan low) (pieceOf plan high) (p .pairs low high o) (q .pairs low high o))
+    (λ o. row-once (plan .gap) (pieceOf plan low) (pieceOf plan high) (p .pairs low high o) (q .pairs low high o))
     (λ f. p .others low high h k f ∙ sym (q .others low high h k f)))

@@ -5,7 +5,7 @@ use Prim.Native.Nat.{ℕ}
 use lib.IntN.{ℤ, natAbs}
 use Rattle.marks.specs.Marks.{Axes, changedMarks}
 use Rattle.desk.specs.declared.Command.{Command}
-use Rattle.desk.specs.declared.Command.the-variants.{Start, Load, Place, Move, Remove}
+use Rattle.desk.specs.declared.Command.the-variants.{Start, Load, Place, Move, Remove, Gap}
 use Rattle.runs.specs.Log.{Entry, isHeld, Plan, planBy}
 use Rattle.runs.specs.Afresh.{pieceOf, lowOf, highOf}
 
@@ -24,6 +24,7 @@ reportedBy (Load shape) numbers plan = 0
 reportedBy (Place place q) numbers plan = 0
 reportedBy (Move place turn o) numbers plan = changedPairs plan (planBy (Move place turn o) numbers plan) (natAbs place)
 reportedBy (Remove place) numbers plan = 0
+reportedBy (Gap gap) numbers plan = 0
 
 -- what is reported of an entry that finds this plan
 abbrev pub reported : Entry → Plan → ℕ

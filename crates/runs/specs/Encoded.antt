@@ -1,10 +1,10 @@
 -- A RUN AS NUMBERS: eight for each command, and beside them the corner numbers of the shapes that are loaded. Every list of numbers is a run.
--- kind, place, shape, turn, x, y, z, count. Kinds: 0 start, 1 load, 2 place, 3 move, 4 remove; a command of another kind is passed over.
+-- kind, place, shape, turn, x, y, z, count. Kinds: 0 start, 1 load, 2 place, 3 move, 4 remove, 5 the gap, whose steps stand at x; a command of another kind is passed over.
 use mathlib.Core.List.{List, [], _∷_, _++_}
 use Prim.Native.Nat.{ℕ, zero, suc, _+_, _-_, _*_, _/_, min}
 use lib.IntN.{ℤ, pos, negsuc}
 use lib.ListN.{length, getD, take, drop}
-use Rattle.desk.specs.declared.Command.the-variants.{Start, Load, Place, Move, Remove}
+use Rattle.desk.specs.declared.Command.the-variants.{Start, Load, Place, Move, Remove, Gap}
 use Rattle.runs.specs.Log.{Entry, _with_}
 
 abbrev pub codeNumbers : ℕ
@@ -21,7 +21,8 @@ commandsOf (pos (suc zero)) p s t x y z numbers = Load s with numbers ∷ []
 commandsOf (pos (suc (suc zero))) p s t x y z numbers = Place p (record { shape = s; turn = t; x = x; y = y; z = z }) with numbers ∷ []
 commandsOf (pos (suc (suc (suc zero)))) p s t x y z numbers = Move p t (record { x = x; y = y; z = z }) with numbers ∷ []
 commandsOf (pos (suc (suc (suc (suc zero))))) p s t x y z numbers = Remove p with numbers ∷ []
-commandsOf (pos (suc (suc (suc (suc (suc n)))))) p s t x y z numbers = []
+commandsOf (pos (suc (suc (suc (suc (suc zero)))))) p s t x y z numbers = Gap x with numbers ∷ []
+commandsOf (pos (suc (suc (suc (suc (suc (suc n))))))) p s t x y z numbers = []
 commandsOf (negsuc n) p s t x y z numbers = []
 
 abbrev pub commandsIn : List ℤ → List ℤ → List Entry

@@ -13,14 +13,15 @@ use Rattle.pieces.specs.Index.{Indexed}
 use Rattle.runs.specs.Encoded.{codeNumbers, numberIn, commandsOf, commandsIn, took, tookBy, codeAt, usedTo, numbersAt, toldTo}
 
 -- a kind that is no command's
-pub passed-over : (kind p s t x y z : ℤ) (numbers : List ℤ) → kind ≢ pos 0 → kind ≢ pos 1 → kind ≢ pos 2 → kind ≢ pos 3 → kind ≢ pos 4 → commandsOf kind p s t x y z numbers ≡ []
-passed-over (pos zero) p s t x y z numbers a b c d e = absurd (a refl)
-passed-over (pos (suc zero)) p s t x y z numbers a b c d e = absurd (b refl)
-passed-over (pos (suc (suc zero))) p s t x y z numbers a b c d e = absurd (c refl)
-passed-over (pos (suc (suc (suc zero)))) p s t x y z numbers a b c d e = absurd (d refl)
-passed-over (pos (suc (suc (suc (suc zero))))) p s t x y z numbers a b c d e = absurd (e refl)
-passed-over (pos (suc (suc (suc (suc (suc n)))))) p s t x y z numbers a b c d e = refl
-passed-over (negsuc n) p s t x y z numbers a b c d e = refl
+pub passed-over : (kind p s t x y z : ℤ) (numbers : List ℤ) → kind ≢ pos 0 → kind ≢ pos 1 → kind ≢ pos 2 → kind ≢ pos 3 → kind ≢ pos 4 → kind ≢ pos 5 → commandsOf kind p s t x y z numbers ≡ []
+passed-over (pos zero) p s t x y z numbers a b c d e f = absurd (a refl)
+passed-over (pos (suc zero)) p s t x y z numbers a b c d e f = absurd (b refl)
+passed-over (pos (suc (suc zero))) p s t x y z numbers a b c d e f = absurd (c refl)
+passed-over (pos (suc (suc (suc zero)))) p s t x y z numbers a b c d e f = absurd (d refl)
+passed-over (pos (suc (suc (suc (suc zero))))) p s t x y z numbers a b c d e f = absurd (e refl)
+passed-over (pos (suc (suc (suc (suc (suc zero)))))) p s t x y z numbers a b c d e f = absurd (f refl)
+passed-over (pos (suc (suc (suc (suc (suc (suc n))))))) p s t x y z numbers a b c d e f = refl
+passed-over (negsuc n) p s t x y z numbers a b c d e f = refl
 
 -- ---- the code's count as an index
 pub took-some : (z : ℤ) (left : ℕ) {i : ℕ} → Indexed left z i → i < left → i ≡ took z left
@@ -47,7 +48,8 @@ one-each (pos (suc zero)) p s t x y z numbers = omega arith
 one-each (pos (suc (suc zero))) p s t x y z numbers = omega arith
 one-each (pos (suc (suc (suc zero)))) p s t x y z numbers = omega arith
 one-each (pos (suc (suc (suc (suc zero))))) p s t x y z numbers = omega arith
-one-each (pos (suc (suc (suc (suc (suc n)))))) p s t x y z numbers = omega arith
+one-each (pos (suc (suc (suc (suc (suc zero)))))) p s t x y z numbers = omega arith
+one-each (pos (suc (suc (suc (suc (suc (suc n))))))) p s t x y z numbers = omega arith
 one-each (negsuc n) p s t x y z numbers = omega arith
 
 pub told-few : (codes numbers : List ℤ) (i : ℕ) → length (toldTo codes numbers i) ≤ i

@@ -8,7 +8,7 @@ use lib.IntN.{ℤ, natAbs}
 use Rattle.pieces.specs.declared.placement.Placement.{Placement}
 use Rattle.pieces.specs.declared.placement.Offset.{Offset}
 use Rattle.desk.specs.declared.Command.{Command}
-use Rattle.desk.specs.declared.Command.the-variants.{Start, Load, Place, Move, Remove}
+use Rattle.desk.specs.declared.Command.the-variants.{Start, Load, Place, Move, Remove, Gap}
 
 -- a command as it arrived, with the corner numbers that came beside it: of the numbers a load alone takes notice
 pub record Entry : Type 0 where
@@ -28,13 +28,15 @@ abbrev pub isHeld : Spot → Bool
 isHeld free = false
 isHeld (held q) = true
 
--- the corner numbers of each shape, none where it is not loaded; and each place
+-- the corner numbers of each shape, none where it is not loaded; each place; and W6's gap
 pub record Plan : Type 0 where
   pub shape : ℕ → List ℤ
   pub place : ℕ → Spot
+  pub gap : ℕ
 
+-- the gap "is 0 at the start"
 abbrev pub emptyPlan : Plan
-emptyPlan = record { shape = λ _. []; place = λ _. free }
+emptyPlan = record { shape = λ _. []; place = λ _. free; gap = 0 }
 
 -- one entry is another now, and every other stays
 abbrev pub with-at : {A : Type 0} → (ℕ → A) → ℕ → A → ℕ → A
@@ -45,12 +47,14 @@ abbrev pub turned : Spot → ℤ → Offset → Spot
 turned free turn o = free
 turned (held q) turn o = held (record { shape = q .shape; turn = turn; x = o .x; y = o .y; z = o .z })
 
+-- "An accepted setting stores its gap and changes nothing else; only another setting or a fresh start alters it."
 abbrev pub planBy : Command → List ℤ → Plan → Plan
 planBy Start numbers plan = emptyPlan
-planBy (Load shape) numbers plan = record { shape = with-at (plan .shape) (natAbs shape) numbers; place = plan .place }
-planBy (Place place q) numbers plan = record { shape = plan .shape; place = with-at (plan .place) (natAbs place) (held q) }
-planBy (Move place turn o) numbers plan = record { shape = plan .shape; place = with-at (plan .place) (natAbs place) (turned (plan .place (natAbs place)) turn o) }
-planBy (Remove place) numbers plan = record { shape = plan .shape; place = with-at (plan .place) (natAbs place) free }
+planBy (Load shape) numbers plan = record { shape = with-at (plan .shape) (natAbs shape) numbers; place = plan .place; gap = plan .gap }
+planBy (Place place q) numbers plan = record { shape = plan .shape; place = with-at (plan .place) (natAbs place) (held q); gap = plan .gap }
+planBy (Move place turn o) numbers plan = record { shape = plan .shape; place = with-at (plan .place) (natAbs place) (turned (plan .place (natAbs place)) turn o); gap = plan .gap }
+planBy (Remove place) numbers plan = record { shape = plan .shape; place = with-at (plan .place) (natAbs place) free; gap = plan .gap }
+planBy (Gap gap) numbers plan = record { shape = plan .shape; place = plan .place; gap = natAbs gap }
 
 abbrev pub planAfter : Entry → Plan → Plan
 planAfter e plan = planBy (e .command) (e .numbers) plan

@@ -70,12 +70,12 @@ module _ (d : Store) (p axis : ℕ) (h : axis < 3) where
       ∙ ap (λ n. greatestTo n (λ i. getD (pieceAt d p) (3 * i + axis) (pos 0))) (sym corners-are)
 
 -- so a row that is right for the desk's pieces is the row of their lists
-pub row-is : (d : Store) (i j : ℕ) {v : ℕ} → RowRight d i j v → RowOf (pieceAt d i) (pieceAt d j) v
-row-is d i j (inl (e, (axis, h, a))) = inl (e, (axis, h, apart-on (high-is d i axis h) (low-is d j axis h) (high-is d j axis h) (low-is d i axis h) a))
-row-is d i j (inr (f, w)) = inr (
+pub row-is : (g : ℕ) (d : Store) (i j : ℕ) {v : ℕ} → RowRight g d i j v → RowOf g (pieceAt d i) (pieceAt d j) v
+row-is g d i j (inl (e, (axis, h, a))) = inl (e, (axis, h, apart-on g (high-is d i axis h) (low-is d j axis h) (high-is d j axis h) (low-is d i axis h) a))
+row-is g d i j (inr (f, w)) = inr (
   λ k.
       let axis = k .0 in
       let h = k .1 in
-      f (axis, h, apart-on (sym (high-is d i axis h)) (sym (low-is d j axis h)) (sym (high-is d j axis h)) (sym (low-is d i axis h)) (k .2)),
+      f (axis, h, apart-on g (sym (high-is d i axis h)) (sym (low-is d j axis h)) (sym (high-is d j axis h)) (sym (low-is d i axis h)) (k .2)),
   w,
 )

@@ -21,14 +21,14 @@ use Rattle.rows.specs.Rows.{PairOf, rowAt, Handled}
 use Rattle.ints.specs.Cases.{by-same, by-less}
 use Rattle.rows.specs.Handling.{pair-stayed, handled-right, handled-other}
 use Rattle.rows_tally.specs.Counting.{filled-at}
-use Rattle.desk_state.specs.Desk.{Desk, InOrder, putAt, emptiedAt, loadedAt}
+use Rattle.desk_state.specs.Desk.{Desk, gapOf, InOrder, putAt, emptiedAt, loadedAt, gapAt}
 use Rattle.rows_right.specs.Right.{RowRight}
 use Rattle.rows_right.specs.RowLaws.{right-same}
 use Rattle.desk_put.specs.Handled.{PutDown, Emptied}
 use Rattle.desk_put.specs.PutLaws.{put-same, put-others, put-turn, put-x, put-y, put-z, empty-same, empty-others, empty-gone}
 use Rattle.desk_load.specs.LoadLaws.{load-same, load-count, load-number, load-count-here, load-number-here}
-use Rattle.desk.specs.Commands.{freshDesk}
-use Rattle.desk.specs.CommandLaws.{fresh-order}
+use Rattle.desk.specs.Commands.{freshDesk, SomeTaken}
+use Rattle.desk.specs.CommandLaws.{fresh-order, fresh-gap, gap-set-order, gap-set}
 use Rattle.runs.specs.Log.{Spot, free, held, Plan, emptyPlan, with-at}
 use Rattle.runs.specs.Reached.{ShapeIs, PlaceIs, HoldsPlan}
 
@@ -79,7 +79,8 @@ pub record Standing (d : Desk) (plan : Plan) : Type 0 where
   pub order : InOrder d
   pub size : Sized (d .store)
   pub holds : HoldsPlan (d .store) plan
-  pub right : (low high : ℕ) → PairOf (d .store .places) low high → RowRight (d .store) low high (rowAt (d .rows) low high)
+  pub gap : gapOf d ≡ plan .gap
+  pub right : (low high : ℕ) → PairOf (d .store .places) low high → RowRight (gapOf d) (d .store) low high (rowAt (d .rows) low high)
 
 pub fresh-standing : Standing freshDesk emptyPlan
 fresh-standing = record {
@@ -89,6 +90,7 @@ fresh-standing = record {
     shapes = λ s h. record { count = ap (λ (z : ℤ). 3 * natAbs z) (filled-at {A = ℤ} (pos 0) Limits.shapesLength (s * Limits.shapeCells)); each = λ k l. absurd (omega arith) };
     places = no-place;
   };
+  gap = fresh-gap;
   right = λ low high q. absurd (no-place low (q .first));
 }
   where
@@ -116,15 +118,34 @@ module _ {d : Desk} {plan : Plan} (s : ℕ) (numbers : List ℤ) (old : Standing
         each = λ k g. load-number (d .store) s numbers (old .order .pieces) new few i k f (omega arith) ∙ was .each k g;
       })
 
-  pub load-standing : InOrder (loadedAt d s numbers) → Standing (loadedAt d s numbers) (record { shape = with-at (plan .shape) s numbers; place = plan .place })
+  pub load-standing : InOrder (loadedAt d s numbers) → Standing (loadedAt d s numbers) (record { shape = with-at (plan .shape) s numbers; place = plan .place; gap = plan .gap })
   load-standing o = record {
     order = o;
     size = record { shapes = length-sets (d .store .shapes) (s * Limits.shapeCells) (pos (length numbers / 3) ∷ numbers) ∙ old .size .shapes; places = old .size .places };
     holds = record { shapes = load-shapes; places = λ p. place-stays (d .store) loads p (plan .place p) refl refl (λ axis l. refl) (old .holds .places p) };
+    gap = old .gap;
     right = λ low high q.
         let same = load-same (d .store) s numbers (old .order .pieces) new few in
-        right-same (same low (q .first)) (same high (q .second)) (old .right low high q);
+        right-same (gapOf d) (same low (q .first)) (same high (q .second)) (old .right low high q);
   }
+
+-- a gap set while no place is taken: no pair has a row
+pub gap-standing : {d : Desk} {plan : Plan} (gap : ℕ) → Standing d plan → gap ≤ Limits.gapMost → (SomeTaken (d .store .places) → ⊥)
+    → Standing (gapAt d gap) (record { shape = plan .shape; place = plan .place; gap = gap })
+gap-standing gap old h none = record {
+  order = gap-set-order h (old .order);
+  size = old .size;
+  holds = record { shapes = old .holds .shapes; places = old .holds .places };
+  gap = gap-set gap (old .order);
+  right = λ low high q. absurd (none (record { place = low; taken = q .first }));
+}
+
+-- the rows are right for a desk with this store and this gap
+right-at : (e : Desk) {S : Store} {g : ℕ} → e .store ≡ S → gapOf e ≡ g → ((low high : ℕ) → PairOf (S .places) low high → RowRight g S low high (rowAt (e .rows) low high))
+    → (low high : ℕ) → PairOf (e .store .places) low high → RowRight (gapOf e) (e .store) low high (rowAt (e .rows) low high)
+right-at e {S} {g} es eg h =
+    subst (λ (n : ℕ). (low high : ℕ) → PairOf (e .store .places) low high → RowRight n (e .store) low high (rowAt (e .rows) low high)) (sym eg)
+    (subst (λ (T : Store). (low high : ℕ) → PairOf (T .places) low high → RowRight g T low high (rowAt (e .rows) low high)) (sym es) h)
 
 pub put-sized : {d : Store} (p : ℕ) (q : Placement) → Sized d → Sized (putAt d p q)
 put-sized {d} p q size = record { shapes = size .shapes; places = length-sets (d .places) (Limits.placeCells * p) ((q .shape +ℤ pos 1) ∷ q .turn ∷ q .x ∷ q .y ∷ q .z ∷ []) ∙ size .places }
@@ -147,13 +168,14 @@ module _ {d e : Desk} {plan : Plan} (p : ℕ) (q : Placement) (s : ℤ) (old : S
     on-z = put-z (d .store) p q (old .size) h;
   }
 
-  put-holds : HoldsPlan puts (record { shape = plan .shape; place = with-at (plan .place) p spot })
+  put-holds : HoldsPlan puts (record { shape = plan .shape; place = with-at (plan .place) p spot; gap = plan .gap })
   put-holds = record {
     shapes = λ i l. record { count = old .holds .shapes i l .count; each = old .holds .shapes i l .each };
     places = at-each (PlaceIs puts) (plan .place) p spot put-piece (λ i f. place-same (plan .place i) (put-same (d .store) p q i f) (old .holds .places i));
   }
 
-  put-right : Handled (RowRight puts) (puts .places) p Limits.places (d .rows) (e .rows) → (low high : ℕ) → PairOf (puts .places) low high → RowRight puts low high (rowAt (e .rows) low high)
+  put-right : Handled (RowRight (gapOf d) puts) (puts .places) p Limits.places (d .rows) (e .rows) → (low high : ℕ) → PairOf (puts .places) low high
+      → RowRight (gapOf d) puts low high (rowAt (e .rows) low high)
   put-right rows low high k =
       by-same low p
       (λ g. handled-right rows low high k (inl g))
@@ -161,16 +183,16 @@ module _ {d e : Desk} {plan : Plan} (p : ℕ) (q : Placement) (s : ℤ) (old : S
       by-same high p
       (λ g. handled-right rows low high k (inr g))
       (λ b.
-      subst (RowRight puts low high) (sym (handled-other rows low high (k .first .place) (k .second .place) a b))
-      (right-same (put-same (d .store) p q low a) (put-same (d .store) p q high b) (old .right low high (pair-stayed (put-others (d .store) p q) a b k)))))
+      subst (RowRight (gapOf d) puts low high) (sym (handled-other rows low high (k .first .place) (k .second .place) a b))
+      (right-same (gapOf d) (put-same (d .store) p q low a) (put-same (d .store) p q high b) (old .right low high (pair-stayed (put-others (d .store) p q) a b k)))))
 
-  pub put-standing : Standing e (record { shape = plan .shape; place = with-at (plan .place) p spot })
+  pub put-standing : Standing e (record { shape = plan .shape; place = with-at (plan .place) p spot; gap = plan .gap })
   put-standing = record {
     order = put .order;
     size = subst Sized (sym (put .store)) (put-sized p q (old .size));
-    holds = subst (λ (S : Store). HoldsPlan S (record { shape = plan .shape; place = with-at (plan .place) p spot })) (sym (put .store)) put-holds;
-    right = subst (λ (S : Store). (low high : ℕ) → PairOf (S .places) low high → RowRight S low high (rowAt (e .rows) low high)) (sym (put .store))
-        (put-right (subst (λ (S : Store). Handled (RowRight S) (S .places) p Limits.places (d .rows) (e .rows)) (put .store) (put .rows)));
+    holds = subst (λ (S : Store). HoldsPlan S (record { shape = plan .shape; place = with-at (plan .place) p spot; gap = plan .gap })) (sym (put .store)) put-holds;
+    gap = put .gap ∙ old .gap;
+    right = right-at e (put .store) (put .gap) (put-right (subst (λ (S : Store). Handled (RowRight (gapOf d) S) (S .places) p Limits.places (d .rows) (e .rows)) (put .store) (put .rows)));
   }
 
 -- a place emptied
@@ -178,24 +200,25 @@ module _ {d e : Desk} {plan : Plan} (p : ℕ) (old : Standing d plan) (h : p < L
   abbrev empties : Store
   empties = emptiedAt (d .store) p
 
-  empty-holds : HoldsPlan empties (record { shape = plan .shape; place = with-at (plan .place) p free })
+  empty-holds : HoldsPlan empties (record { shape = plan .shape; place = with-at (plan .place) p free; gap = plan .gap })
   empty-holds = record {
     shapes = λ i l. record { count = old .holds .shapes i l .count; each = old .holds .shapes i l .each };
     places = at-each (PlaceIs empties) (plan .place) p free (empty-gone (d .store) p (old .size) h) (λ q f. place-same (plan .place q) (empty-same (d .store) p q f) (old .holds .places q));
   }
 
-  empty-right : (low high : ℕ) → PairOf (empties .places) low high → RowRight empties low high (rowAt (e .rows) low high)
+  empty-right : (low high : ℕ) → PairOf (empties .places) low high → RowRight (gapOf d) empties low high (rowAt (e .rows) low high)
   empty-right low high q =
       let gone = empty-gone (d .store) p (old .size) h in
       let a : low ≡ p → ⊥ = λ g. gone (subst (Taken (empties .places)) g (q .first)) in
       let b : high ≡ p → ⊥ = λ g. gone (subst (Taken (empties .places)) g (q .second)) in
-      subst (RowRight empties low high) (sym (put .rows .kept low high (q .first .place) (q .second .place) a b))
-      (right-same (empty-same (d .store) p low a) (empty-same (d .store) p high b) (old .right low high (pair-stayed (empty-others (d .store) p) a b q)))
+      subst (RowRight (gapOf d) empties low high) (sym (put .rows .kept low high (q .first .place) (q .second .place) a b))
+      (right-same (gapOf d) (empty-same (d .store) p low a) (empty-same (d .store) p high b) (old .right low high (pair-stayed (empty-others (d .store) p) a b q)))
 
-  pub empty-standing : Standing e (record { shape = plan .shape; place = with-at (plan .place) p free })
+  pub empty-standing : Standing e (record { shape = plan .shape; place = with-at (plan .place) p free; gap = plan .gap })
   empty-standing = record {
     order = put .order;
     size = subst Sized (sym (put .store)) (record { shapes = old .size .shapes; places = length-set (d .store .places) (Limits.placeCells * p) (pos 0) ∙ old .size .places });
-    holds = subst (λ (S : Store). HoldsPlan S (record { shape = plan .shape; place = with-at (plan .place) p free })) (sym (put .store)) empty-holds;
-    right = subst (λ (S : Store). (low high : ℕ) → PairOf (S .places) low high → RowRight S low high (rowAt (e .rows) low high)) (sym (put .store)) empty-right;
+    holds = subst (λ (S : Store). HoldsPlan S (record { shape = plan .shape; place = with-at (plan .place) p free; gap = plan .gap })) (sym (put .store)) empty-holds;
+    gap = put .gap ∙ old .gap;
+    right = right-at e (put .store) (put .gap) empty-right;
   }

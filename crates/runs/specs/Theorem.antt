@@ -3,6 +3,7 @@
 use mathlib.Core.Path.{_≡_, refl, sym, ap, _∙_, subst}
 use mathlib.Core.List.{List, [], _∷_}
 use mathlib.Core.Bool.{true}
+use mathlib.Core.Logic.{inl, inr}
 use Prim.Native.Nat.{ℕ, zero, suc, _-_, _*_, _≤_, _<_}
 use native.Mathlib.Omega.{arith}
 use lib.Dec.{T}
@@ -22,13 +23,13 @@ use Rattle.rows.specs.Rows.{PairOf, rowAt}
 use Rattle.rows.specs.Handling.{handled-other}
 use Rattle.rows_tally.specs.Tallies.{BookInOrder}
 use Rattle.rows_tally.specs.Counting.{book-once}
-use Rattle.desk_state.specs.Desk.{Desk, InOrder, loadedAt}
+use Rattle.desk_state.specs.Desk.{Desk, gapOf, InOrder, loadedAt, gapAt}
 use Rattle.desk_put.specs.Handled.{PutDown, Emptied}
 use Rattle.desk_put.specs.PutLaws.{put-shape, put-names}
 use Rattle.desk_load.specs.LoadLaws.{in-place-agrees}
-use Rattle.desk.specs.Commands.{numberOf, outcomeCount, Commanded, loadRefusals, placeRefusals, moveRefusals, movedTo, removeRefusals, Does}
+use Rattle.desk.specs.Commands.{numberOf, outcomeCount, Commanded, loadRefusals, placeRefusals, moveRefusals, movedTo, removeRefusals, gapRefusals, Does}
 use Rattle.desk.specs.declared.Command.{Command}
-use Rattle.desk.specs.declared.Command.the-variants.{Start, Load, Place, Move, Remove}
+use Rattle.desk.specs.declared.Command.the-variants.{Start, Load, Place, Move, Remove, Gap}
 use Rattle.desk.specs.declared.Outcome.{Outcome}
 use Rattle.desk.specs.declared.Outcome.the-variants.{Done, Refused}
 use Rattle.runs.specs.Log.{Entry, _with_, Spot, free, held, isHeld, Plan, emptyPlan, with-at, turned, planBy, planAfter, planOf}
@@ -38,7 +39,7 @@ use Rattle.runs.specs.Count.{axesIn, reportedBy}
 use Rattle.runs.specs.CountLaws.{count-same}
 use Rattle.runs.specs.PieceLaws.{piece-is, low-is, high-is, row-is}
 use Rattle.runs.specs.Reached.{logged, Reached, started, told, PlaceIs}
-use Rattle.runs.specs.Standing.{at-each, Standing, None, none-applies, numbered-of, whole-of, few-of, fresh-standing, load-standing, put-standing, empty-standing}
+use Rattle.runs.specs.Standing.{at-each, Standing, None, none-applies, numbered-of, whole-of, few-of, fresh-standing, load-standing, put-standing, empty-standing, gap-standing}
 use Rattle.runs.specs.Stands.{Stands, SameStanding, Changes}
 
 -- ---- every command keeps what stands
@@ -88,7 +89,7 @@ module _ {d : Desk} {plan : Plan} (old : Standing d plan) where
         taken : Taken (d .store .places) here
         taken = by-taken (d .store .places) here at (λ t. t) (λ f. absurd (a .1 .1 .0 f))
 
-        go : (spot : Spot) → PlaceIs (d .store) here spot → Standing after (record { shape = plan .shape; place = with-at (plan .place) here (turned spot turn o) })
+        go : (spot : Spot) → PlaceIs (d .store) here spot → Standing after (record { shape = plan .shape; place = with-at (plan .place) here (turned spot turn o); gap = plan .gap })
         go free f = absurd (f taken)
         go (held q) k =
             put-standing here goes (q .shape) old at put
@@ -99,6 +100,12 @@ module _ {d : Desk} {plan : Plan} (old : Standing d plan) where
       let a = none-applies (removeRefusals d place) (omega arith, (omega arith, (omega arith, tt))) h in
       empty-standing (natAbs place) old (numbered-of Limits.places place (a .1 .0) .below) put
 
+  after-gap : {after : Desk} (gap : ℤ) (numbers : List ℤ) → Lowest (gapRefusals d gap) 0 → after ≡ gapAt d (natAbs gap) → Standing after (planBy (Gap gap) numbers plan)
+  after-gap gap numbers h is =
+      let a = none-applies (gapRefusals d gap) (omega arith, (omega arith, tt)) h in
+      let fits = numbered-of (suc Limits.gapMost) gap (λ f. a .1 .0 (inl f)) in
+      subst (λ (x : Desk). Standing x (planBy (Gap gap) numbers plan)) (sym is) (gap-standing (natAbs gap) old (omega (arith, fits .below)) (λ t. a .1 .0 (inr t)))
+
 step-by : {d after : Desk} (log : List Entry) (c : Command) (numbers : List ℤ) (r : Outcome) → Standing d (planOf log) → Does c numbers d after r
     → Standing after (planOf (logged (numberOf r) (c with numbers) log))
 step-by log Start numbers r old k = commanded log (Start with numbers) r k old (λ h a. subst (λ (x : Desk). Standing x emptyPlan) (sym (a .0)) fresh-standing)
@@ -106,6 +113,7 @@ step-by log (Load shape) numbers r old k = commanded log (Load shape with number
 step-by log (Place place q) numbers r old k = commanded log (Place place q with numbers) r k old (λ h a. after-place old place q numbers h (a .0))
 step-by log (Move place turn o) numbers r old k = commanded log (Move place turn o with numbers) r k old (λ h a. after-move old place turn o numbers h (a .put))
 step-by log (Remove place) numbers r old k = commanded log (Remove place with numbers) r k old (λ h a. after-remove old place numbers h (a .0))
+step-by log (Gap gap) numbers r old k = commanded log (Gap gap with numbers) r k old (λ h a. after-gap old gap numbers h (a .0))
 
 pub step : {d after : Desk} (log : List Entry) (e : Entry) (r : Outcome) → Standing d (planOf log) → Does (e .command) (e .numbers) d after r → Standing after (planOf (logged (numberOf r) e log))
 step log e = step-by log (e .command) (e .numbers)
@@ -147,9 +155,10 @@ module _ {d : Desk} {plan : Plan} (s : Standing d plan) where
   afresh = record {
     size = s .order .rows .size;
     pairs = λ low high q.
-        subst (λ (A : List ℤ). RowOf A (pieceOf plan high) (rowAt (d .rows) low high)) (place-piece low (q .first))
-        (subst (λ (B : List ℤ). RowOf (pieceAt (d .store) low) B (rowAt (d .rows) low high)) (place-piece high (q .second))
-        (row-is (d .store) low high (s .right low high (pair-of low high q))));
+        subst (λ (A : List ℤ). RowOf (plan .gap) A (pieceOf plan high) (rowAt (d .rows) low high)) (place-piece low (q .first))
+        (subst (λ (B : List ℤ). RowOf (plan .gap) (pieceAt (d .store) low) B (rowAt (d .rows) low high)) (place-piece high (q .second))
+        (subst (λ (g : ℕ). RowOf g (pieceAt (d .store) low) (pieceAt (d .store) high) (rowAt (d .rows) low high)) (s .gap)
+        (row-is (gapOf d) (d .store) low high (s .right low high (pair-of low high q)))));
     others = λ low high h k f. s .order .rows .others low high h k (λ q. f (pair-in low high q));
   }
 
@@ -170,7 +179,7 @@ module _ {d : Desk} {plan : Plan} (s : Standing d plan) where
 
 -- ---- THE THEOREM
 pub stands-of : {d : Desk} (log : List Entry) → Standing d (planOf log) → Stands d log
-stands-of log s = record { order = s .order; holds = s .holds; rows = afresh s }
+stands-of log s = record { order = s .order; holds = s .holds; gap = s .gap; rows = afresh s }
 
 pub reached-stands : {d : Desk} {log : List Entry} → Reached d log → Stands d log
 reached-stands {log = log} h = stands-of log (standing h)
@@ -209,7 +218,7 @@ reached-once {d} {e} h k =
     let s = standing h in
     let u = standing k in
     let rows = afresh-once (afresh s) (afresh u) in
-    record { rows = rows; book = book-once (subst (λ (l : List ℕ). BookInOrder l (d .book)) rows (s .order .book)) (u .order .book); marks = same-marks s u }
+    record { rows = rows; book = book-once (subst (λ (l : List ℕ). BookInOrder l (d .book)) rows (s .order .book)) (u .order .book) (s .gap ∙ sym (u .gap)); marks = same-marks s u }
 
 -- ---- what one command changes
 none-counted : {n : ℕ} → n ≡ 0 → n ≤ Limits.moveMost
@@ -255,6 +264,9 @@ changes-by (Move place turn o) numbers r k e =
       counted = λ log h. a .counted ∙ move-count (planOf log) place turn o numbers (standing h) (accepted-standing log (Move place turn o) numbers r h k e) (a .put .taken);
       most = a .most;
     }
+changes-by (Gap gap) numbers r k e =
+    let a = k .done e in
+    record { rows = λ low high h l f g. ap (λ (d : Desk). rowAt (d .rows) low high) (a .0); counted = λ log h. a .2; most = none-counted (a .2) }
 changes-by (Remove place) numbers r k e = let a = k .done e in record { rows = a .0 .rows .kept; counted = λ log h. a .1; most = none-counted (a .1) }
 
 pub accepted-changes : {before after : Desk} (e : Entry) (r : Outcome) → Does (e .command) (e .numbers) before after r → numberOf r ≡ 0 → Changes e before after (outcomeCount r)
@@ -272,6 +284,7 @@ refused-by (Load shape) numbers r k h = refused r k h
 refused-by (Place place q) numbers r k h = refused r k h
 refused-by (Move place turn o) numbers r k h = refused r k h
 refused-by (Remove place) numbers r k h = refused r k h
+refused-by (Gap gap) numbers r k h = refused r k h
 
 pub refused-changes : {before after : Desk} (e : Entry) (r : Outcome) → Does (e .command) (e .numbers) before after r → 0 < numberOf r → (after ≡ before) × (outcomeCount r ≡ 0)
 refused-changes e = refused-by (e .command) (e .numbers)

@@ -8,7 +8,7 @@ use lib.ListN.{length}
 use Rattle.desk_state.specs.Desk.{Desk}
 use Rattle.desk.specs.Commands.{numberOf, Does}
 use Rattle.desk.specs.declared.Command.{Command}
-use Rattle.desk.specs.declared.Command.the-variants.{Start, Load, Place, Move, Remove}
+use Rattle.desk.specs.declared.Command.the-variants.{Start, Load, Place, Move, Remove, Gap}
 use Rattle.desk.specs.declared.Outcome.{Outcome}
 use Rattle.desk.specs.declared.Outcome.the-variants.{Done, Refused}
 use Rattle.runs.specs.Log.{Entry}
@@ -38,6 +38,7 @@ StartOr (Load shape) Before = Before
 StartOr (Place place q) Before = Before
 StartOr (Move place turn o) Before = Before
 StartOr (Remove place) Before = Before
+StartOr (Gap gap) Before = Before
 
 abbrev pub Starts : List Entry → Type 0
 Starts [] = ⊥

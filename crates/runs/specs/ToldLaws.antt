@@ -10,7 +10,7 @@ use Rattle.desk_state.specs.Desk.{Desk}
 use Rattle.desk.specs.Commands.{numberOf, Named, Does}
 use Rattle.desk.specs.CommandLaws.{does-once}
 use Rattle.desk.specs.declared.Command.{Command}
-use Rattle.desk.specs.declared.Command.the-variants.{Start, Load, Place, Move, Remove}
+use Rattle.desk.specs.declared.Command.the-variants.{Start, Load, Place, Move, Remove, Gap}
 use Rattle.desk.specs.declared.Outcome.{Outcome}
 use Rattle.desk.specs.declared.Outcome.the-variants.{Done, Refused}
 use Rattle.runs.specs.Log.{Entry, _with_, emptyPlan, planOf}
@@ -53,6 +53,7 @@ does-named d after (Load shape) numbers r h = h .named
 does-named d after (Place place q) numbers r h = h .named
 does-named d after (Move place turn o) numbers r h = h .named
 does-named d after (Remove place) numbers r h = h .named
+does-named d after (Gap gap) numbers r h = h .named
 
 accepted-one : (e : Entry) (r : Outcome) → Named r → acceptedOf r ≡ length (logged (numberOf r) e [])
 accepted-one e (Done n) h = refl
@@ -106,6 +107,7 @@ stands-on log (Load shape) numbers (Done n) k old h = step log (Load shape with 
 stands-on log (Place place q) numbers (Done n) k old h = step log (Place place q with numbers) (Done n) (old h) k
 stands-on log (Move place turn o) numbers (Done n) k old h = step log (Move place turn o with numbers) (Done n) (old h) k
 stands-on log (Remove place) numbers (Done n) k old h = step log (Remove place with numbers) (Done n) (old h) k
+stands-on log (Gap gap) numbers (Done n) k old h = step log (Gap gap with numbers) (Done n) (old h) k
 
 ran-started : {d after : Desk} {es log : List Entry} → Ran d es after log → Starts log → Standing after (planOf log)
 ran-started none h = absurd h

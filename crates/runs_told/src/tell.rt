@@ -20,7 +20,7 @@ pub enum Coded {
     Passed,
 }
 
-// Which command a code is: kind, place, shape, turn, x, y, z.
+// Which command a code is: kind, place, shape, turn, x, y, z. A gap's steps stand at x.
 fn command_of(code: &[i32]) -> Coded
     requires { ⌜ codeNumbers ≤ length (now code) ⌝ }
     ensures { λ r. ⌜ ((numbers : List ℤ) → commandsIn (now (code .entry)) numbers ≡ entriesOf r numbers) ⌝ }
@@ -47,6 +47,7 @@ fn command_of(code: &[i32]) -> Coded
         )),
         3 => Coded::One(Command::Move(at, turn, Offset { x: x, y: y, z: z })),
         4 => Coded::One(Command::Remove(at)),
+        5 => Coded::One(Command::Gap(x)),
         _ => Coded::Passed,
     }
 }

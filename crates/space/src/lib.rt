@@ -13,9 +13,10 @@ pub struct Vec3 {
     pub z: i64,
 }
 
-// A corner of the first piece and one of the second, by their numbers, and the weight of their difference.
+// A corner of the first piece, the corner of the gap's cube that widens it, and a corner of the second, by their numbers, and the weight of their difference.
 pub struct Pair {
     pub first: usize,
+    pub cube: usize,
     pub second: usize,
     pub weight: i64,
 }

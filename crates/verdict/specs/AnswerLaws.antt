@@ -1,9 +1,10 @@
 -- That only witnesses may vary: what two answers share which are allowed for one question.
 -- One law, for the pair question on two lists (here) and on two places (crate `desk`, CommandLaws).
 use mathlib.Core.Path.{_≡_, sym, ap, _∙_}
-use Prim.Native.Nat.{_≤_}
+use Prim.Native.Nat.{ℕ, _≤_}
 use native.Mathlib.Decide.{ℕ-discrete}
 use native.Mathlib.Omega.{arith}
+use lib.IntN.{ℤ}
 use lib.Seq.{ext-getD}
 use Rattle.limits.specs.Limits.{done}
 use Rattle.limits.specs.LowestLaws.{lowest-once}
@@ -15,7 +16,7 @@ use Rattle.verdict.specs.declared.Answer.{Answer}
 use Rattle.verdict.specs.Answers.{refusals, nothing, Carries, Answers, OneAnswer}
 
 -- an answer carries no more than four pairs
-pub carries-few : {A B : Piece} {r : Answer} → Carries A B r → r .count ≤ 4
+pub carries-few : {g : ℕ} {A B : Piece} {r : Answer} → Carries g A B r → r .count ≤ 4
 carries-few {r = r} c = go (ℕ-discrete (r .verdict) separate)
   where
     go : Dec (r .verdict ≡ separate) → r .count ≤ 4
@@ -23,13 +24,13 @@ carries-few {r = r} c = go (ℕ-discrete (r .verdict) separate)
     go (no f) = c .paired f .1
 
 -- separate pieces: four zero pairs
-no-pairs : {A B : Piece} {r : Answer} → Carries A B r → r .verdict ≡ separate → r .pairs ≡ noPairs
+no-pairs : {g : ℕ} {A B : Piece} {r : Answer} → Carries g A B r → r .verdict ≡ separate → r .pairs ≡ noPairs
 no-pairs {r = r} c e = ext-getD noPair (r .pairs) noPairs (c .four) (λ k h. c .rest k (let z = c .unpaired e in omega arith) ∙ sym (none-at k))
 
 -- two answers with one number, of which each is all zero where it is refused and else carries a verdict of the same two pieces
-module _ {A B : Piece} {q r : Answer} (same : q .number ≡ r .number)
+module _ {g : ℕ} {A B : Piece} {q r : Answer} (same : q .number ≡ r .number)
     (zq : (q .number ≡ done → ⊥) → q ≡ nothing (q .number)) (zr : (r .number ≡ done → ⊥) → r ≡ nothing (r .number))
-    (cq : q .number ≡ done → Carries A B q) (cr : r .number ≡ done → Carries A B r) where
+    (cq : q .number ≡ done → Carries g A B q) (cr : r .number ≡ done → Carries g A B r) where
   equal : (q .number ≡ done → ⊥) → q ≡ r
   equal f = zq f ∙ ap nothing same ∙ sym (zr (λ z. f (same ∙ z)))
 
@@ -59,10 +60,10 @@ module _ {A B : Piece} {q r : Answer} (same : q .number ≡ r .number)
             undirected = λ _. ap (λ (x : Answer). x .direction) e;
           }
 
--- two answers allowed for the same lists
-pub answers-once : {A B : Piece} {q r : Answer} → Answers A B q → Answers A B r → OneAnswer q r
-answers-once {A} {B} a b = one-answer (lowest-once (refusals A B) (a .refusal) (b .refusal)) (a .zeros) (b .zeros) (a .carries) (b .carries)
+-- two answers allowed for the same gap and lists
+pub answers-once : {gap : ℤ} {A B : Piece} {q r : Answer} → Answers gap A B q → Answers gap A B r → OneAnswer q r
+answers-once {gap} {A} {B} a b = one-answer (lowest-once (refusals gap A B) (a .refusal) (b .refusal)) (a .zeros) (b .zeros) (a .carries) (b .carries)
 
 -- two answers with a verdict of the same two pieces
-pub verdicts-once : {A B : Piece} {q r : Answer} → (q .number ≡ done) × Carries A B q → (r .number ≡ done) × Carries A B r → OneAnswer q r
+pub verdicts-once : {g : ℕ} {A B : Piece} {q r : Answer} → (q .number ≡ done) × Carries g A B q → (r .number ≡ done) × Carries g A B r → OneAnswer q r
 verdicts-once a b = one-answer (a .0 ∙ sym (b .0)) (λ f. absurd (f (a .0))) (λ f. absurd (f (b .0))) (λ _. a .1) (λ _. b .1)

@@ -8,19 +8,21 @@ use Prim.Native.Nat.{ℕ, _+_, _≤_}
 use native.Mathlib.Omega.{arith}
 use lib.Dec.{T}
 use lib.ListN.{length, take, getD, length-take}
-use lib.IntN.{ℤ, pos, negℤ, _+ℤ_, _-ℤ_, _*ℤ_, *ℤ-zero, +ℤ-idl}
+use lib.IntN.{ℤ, pos, negℤ, natAbs, _+ℤ_, _-ℤ_, _*ℤ_, *ℤ-zero, +ℤ-idl}
 use lib.Signed.{_≤ℤ_, _<ℤ_, clashℤ}
 use Rattle.ints.specs.Quote.{sides, by-ring}
-use Rattle.ints.specs.Order.{trichotomy, lt→≤ℤ, <ℤ-cancel, ≤ℤ-trans}
+use Rattle.ints.specs.Order.{trichotomy, lt→≤ℤ, <ℤ-cancel, ≤ℤ-trans, nn-pos}
+use Rattle.ints.specs.Measure.{nat-of}
 use Rattle.ints.specs.Bounds.{Within, known, within, within-upper}
 use Rattle.ints.specs.Sign.{Under, gt-other}
 use Rattle.limits.specs.Decides.{Decides}
-use Rattle.limits.specs.Limits.{weightMost, directionReach, placedReach, placedRange, listLength}
+use Rattle.limits.specs.Limits.{weightMost, directionReach, placedReach, placedRange, listLength, gapMost, gapRefused}
+use Rattle.limits.specs.Lowest.{Lowest}
 use Rattle.space.specs.declared.Vec3.{Vec3}
 use Rattle.space.specs.declared.Pair.{Pair}
-use Rattle.space.specs.Vectors.{dot, det, normal, env1, origin}
+use Rattle.space.specs.Vectors.{dot, minus, det, normal, env1, origin}
 use Rattle.space.specs.Ranges.{Upto, pointReach, shiftReach, weightReach}
-use Rattle.space.specs.Verdicts.{Piece, Below, Supported, Balance, touching, penetrating}
+use Rattle.space.specs.Verdicts.{Piece, cornerAt, widenedAt, Below, Supported, Balance, touching, penetrating}
 use Rattle.space.specs.Lists.{LengthFits, InReach, Placed}
 use Rattle.verdict_portal.specs.declared.Three.{Three}
 use Rattle.verdict_portal.specs.Portal.{ZeroSum, depth, cramer}
@@ -41,16 +43,16 @@ use Rattle.verdict_walk.specs.EndLaws.{point-upto}
 use Rattle.verdict_frame.specs.Frames.{Framed, Dropping, framePlaces, FirstPortal}
 use Rattle.verdict_frame.specs.FrameLaws.{origin-upto, walled-of}
 use Rattle.verdict_walk.specs.Gather.{baseOf, Gather, Weighed}
-use Rattle.verdict_walk.specs.GatherLaws.{weight-within, minus-within, none-at, gather-none, gather-more, count-grows, FourWeigh, four-weigh}
+use Rattle.verdict_walk.specs.GatherLaws.{weight-within, minus-within, none-at, named-same, gather-none, gather-more, count-grows, FourWeigh, four-weigh}
 use Rattle.verdict.specs.declared.Answer.{Answer}
-use Rattle.verdict.specs.Answers.{nothing, BadLength, OutOfReach, Carries, Answers}
+use Rattle.verdict.specs.Answers.{refusals, nothing, BadLength, OutOfReach, GapFits, Carries, Answers}
 
 -- what is not negative and not 0 is positive
 above-zero : {w : ℤ} → pos 0 ≤ℤ w → (w ≡ pos 0 → ⊥) → pos 0 <ℤ w
 above-zero {w} h f = ⊎-elim (λ l. absurd (clashℤ l h)) (⊎-elim (λ l. absurd (f l)) (λ l. l)) (trichotomy w (pos 0))
 
 -- ---- what the walks of a frame begin with
-module _ {A B : Piece} {f : Frame} (pa : Placed A) (pb : Placed B) (k : Framed A B f) where
+module _ {gap : ℕ} {A B : Piece} {f : Frame} (pa : Placed A) (pb : Placed B) (k : Framed gap A B f) where
   pub ground : Ground A B (f .widths)
   ground = record { first = pa; second = pb; box = k .box }
 
@@ -125,11 +127,11 @@ module _ {A B : Piece} {f : Frame} (pa : Placed A) (pb : Placed B) (k : Framed A
       }))
 
   -- ---- apart: separate
-  pub separate-by : {e : Ended} → Walked A B (f .widths) origin (framePlaces f) e → e .met ≡ false → Below (e .normal) A B
+  pub separate-by : {e : Ended} → Walked A B (f .widths) origin (framePlaces f) e → e .met ≡ false → Below (e .normal) gap A B
   separate-by {e} w t =
-      below-of (f .widths) n
+      below-of n
       (λ y m. <ℤ-cancel {a = dot n y} {b = pos 0} bigK posK
-      (subst (λ z. z <ℤ (bigK *ℤ pos 0)) (flat bigK (dot n y)) (subst (λ z. (bigK *ℤ dot n y +ℤ dot n origin) <ℤ z) (sym (*ℤ-zero bigK)) (w .apart t .all y m))))
+      (subst (λ z. z <ℤ (bigK *ℤ pos 0)) (flat bigK (dot n y)) (subst (λ z. (bigK *ℤ dot n y +ℤ dot n origin) <ℤ z) (sym (*ℤ-zero bigK)) (w .apart t .all y m)))) (k .of-gap)
     where
       n : Vec3
       n = e .normal
@@ -141,18 +143,22 @@ module _ {A B : Piece} {f : Frame} (pa : Placed A) (pb : Placed B) (k : Framed A
 weight-most : {z : ℤ} → Within weightReach z → z ≤ℤ pos weightMost
 weight-most w = ≤ℤ-trans (within-upper w) (record { le = tt })
 
-drops : {A B : Piece} {g : Vec3} {p : Difference} (d : Dropping A B g) → Tagged A B g p → Drops (d .k) (d .r1) (d .r2) (d .r3) (p .at) (baseOf A B p)
-drops {A} {B} {g} {p} d t = subst (λ v. Drops (d .k) (d .r1) (d .r2) (d .r3) v (baseOf A B p)) (sym (t .is)) (d .drop (p .first) (p .second) (t .of-first) (t .of-second) (t .signs) (t .are))
+drops : {gap : ℕ} {A B : Piece} {g : Vec3} {p : Difference} (d : Dropping gap A B g) → Tagged A B g p → Drops (d .k) (d .r1) (d .r2) (d .r3) (p .at) (baseOf gap A B p)
+drops {gap} {A} {B} {g} {p} d t =
+    subst (λ v. Drops (d .k) (d .r1) (d .r2) (d .r3) (p .at) (minus v (cornerAt B (p .second)))) (named-same gap A (p .first) (p .cube))
+    (subst (λ v. Drops (d .k) (d .r1) (d .r2) (d .r3) v (minus (widenedAt gap A (p .first) (p .cube)) (cornerAt B (p .second)))) (sym (t .is))
+    (d .drop (p .first) (p .cube) (p .second) (t .of-first) (t .of-cube) (t .of-second)))
 
-pub record Weights (A B : Piece) (r : Gathered) : Type 0 where
+pub record Weights (gap : ℕ) (A B : Piece) (r : Gathered) : Type 0 where
   pub counted : (1 ≤ r .count) × (r .count ≤ 4)
-  pub balance : Balance A B (take (r .count) (r .pairs))
+  pub balance : Balance gap A B (take (r .count) (r .pairs))
   pub four : length (r .pairs) ≡ 4
   pub rest : (k : ℕ) → r .count ≤ k → getD (r .pairs) k noPair ≡ noPair
+  pub uncubed : gap ≡ 0 → (k : ℕ) → getD (r .pairs) k noPair .cube ≡ 0
 
-pub weights : {A B : Piece} {f : Frame} {e : Ended} {r : Gathered} (pa : Placed A) (pb : Placed B) (k : Framed A B f) → Walked A B (f .widths) origin (framePlaces f) e → e .met ≡ true
-    → Weighed e r → Weights A B r
-weights {A} {B} {f} {e} {r} pa pb k w t h = record {
+pub weights : {gap : ℕ} {A B : Piece} {f : Frame} {e : Ended} {r : Gathered} (pa : Placed A) (pb : Placed B) (k : Framed gap A B f) → Walked A B (f .widths) origin (framePlaces f) e → e .met ≡ true
+    → Weighed gap e r → Weights gap A B r
+weights {gap} {A} {B} {f} {e} {r} pa pb k w t h = record {
   counted = (counted, g4 .few);
   balance = record {
     some = some;
@@ -164,6 +170,7 @@ weights {A} {B} {f} {e} {r} pa pb k w t h = record {
   };
   four = g4 .size;
   rest = g4 .rest;
+  uncubed = g4 .uncubed;
 }
   where
     p : Vec3
@@ -179,16 +186,16 @@ weights {A} {B} {f} {e} {r} pa pb k w t h = record {
     c = e .portal .c .at
 
     bp : Vec3
-    bp = baseOf A B (e .last)
+    bp = baseOf gap A B (e .last)
 
     ba : Vec3
-    ba = baseOf A B (e .portal .a)
+    ba = baseOf gap A B (e .portal .a)
 
     bb : Vec3
-    bb = baseOf A B (e .portal .b)
+    bb = baseOf gap A B (e .portal .b)
 
     bc : Vec3
-    bc = baseOf A B (e .portal .c)
+    bc = baseOf gap A B (e .portal .c)
 
     w0 : ℤ
     w0 = pos 0 -ℤ det a b c
@@ -217,18 +224,18 @@ weights {A} {B} {f} {e} {r} pa pb k w t h = record {
     n0 : pos 0 <ℤ w0
     n0 = subst (λ z. pos 0 <ℤ z) (sym (+ℤ-idl (negℤ (det a b c)))) (plain a b c (f .a .at) (f .b .at) (f .c .at) (hd .inv) .hp)
 
-    g1 : Gather A B 1 (pos 0 +ℤ w0 *ℤ bp .x) (pos 0 +ℤ w0 *ℤ bp .y) (pos 0 +ℤ w0 *ℤ bp .z) (h .g1)
-    g1 = gather-more (gather-none A B) (omega arith) (w .last .of-first, w .last .of-second) (lt→≤ℤ n0) (weight-most (minus-within (weight-within (hd .ina) (hd .inb) (hd .inc)))) (h .first)
+    g1 : Gather gap A B 1 (pos 0 +ℤ w0 *ℤ bp .x) (pos 0 +ℤ w0 *ℤ bp .y) (pos 0 +ℤ w0 *ℤ bp .z) (h .g1)
+    g1 = gather-more (gather-none gap A B) (omega arith) (w .last) (lt→≤ℤ n0) (weight-most (minus-within (weight-within (hd .ina) (hd .inb) (hd .inc)))) (h .first)
 
-    g2 : Gather A B 2 (pos 0 +ℤ w0 *ℤ bp .x +ℤ w1′ *ℤ ba .x) (pos 0 +ℤ w0 *ℤ bp .y +ℤ w1′ *ℤ ba .y) (pos 0 +ℤ w0 *ℤ bp .z +ℤ w1′ *ℤ ba .z) (h .g2)
-    g2 = gather-more g1 (omega arith) (w .begun .ofa .of-first, w .begun .ofa .of-second) (plain-nn p b c (met .w1)) (weight-most (weight-within up (hd .inb) (hd .inc))) (h .second)
+    g2 : Gather gap A B 2 (pos 0 +ℤ w0 *ℤ bp .x +ℤ w1′ *ℤ ba .x) (pos 0 +ℤ w0 *ℤ bp .y +ℤ w1′ *ℤ ba .y) (pos 0 +ℤ w0 *ℤ bp .z +ℤ w1′ *ℤ ba .z) (h .g2)
+    g2 = gather-more g1 (omega arith) (w .begun .ofa) (plain-nn p b c (met .w1)) (weight-most (weight-within up (hd .inb) (hd .inc))) (h .second)
 
-    g3 : Gather A B 3 (pos 0 +ℤ w0 *ℤ bp .x +ℤ w1′ *ℤ ba .x +ℤ w2′ *ℤ bb .x) (pos 0 +ℤ w0 *ℤ bp .y +ℤ w1′ *ℤ ba .y +ℤ w2′ *ℤ bb .y) (pos 0 +ℤ w0 *ℤ bp .z +ℤ w1′ *ℤ ba .z +ℤ w2′ *ℤ bb .z) (h .g3)
-    g3 = gather-more g2 (omega arith) (w .begun .ofb .of-first, w .begun .ofb .of-second) (plain-nn a p c (met .w2)) (weight-most (weight-within (hd .ina) up (hd .inc))) (h .third)
+    g3 : Gather gap A B 3 (pos 0 +ℤ w0 *ℤ bp .x +ℤ w1′ *ℤ ba .x +ℤ w2′ *ℤ bb .x) (pos 0 +ℤ w0 *ℤ bp .y +ℤ w1′ *ℤ ba .y +ℤ w2′ *ℤ bb .y) (pos 0 +ℤ w0 *ℤ bp .z +ℤ w1′ *ℤ ba .z +ℤ w2′ *ℤ bb .z) (h .g3)
+    g3 = gather-more g2 (omega arith) (w .begun .ofb) (plain-nn a p c (met .w2)) (weight-most (weight-within (hd .ina) up (hd .inc))) (h .third)
 
-    g4 : Gather A B 4 (pos 0 +ℤ w0 *ℤ bp .x +ℤ w1′ *ℤ ba .x +ℤ w2′ *ℤ bb .x +ℤ w3 *ℤ bc .x)
+    g4 : Gather gap A B 4 (pos 0 +ℤ w0 *ℤ bp .x +ℤ w1′ *ℤ ba .x +ℤ w2′ *ℤ bb .x +ℤ w3 *ℤ bc .x)
         (pos 0 +ℤ w0 *ℤ bp .y +ℤ w1′ *ℤ ba .y +ℤ w2′ *ℤ bb .y +ℤ w3 *ℤ bc .y) (pos 0 +ℤ w0 *ℤ bp .z +ℤ w1′ *ℤ ba .z +ℤ w2′ *ℤ bb .z +ℤ w3 *ℤ bc .z) r
-    g4 = gather-more g3 (omega arith) (w .begun .ofc .of-first, w .begun .ofc .of-second) (plain-nn a b p (met .w3)) (weight-most (weight-within (hd .ina) (hd .inb) up)) (h .fourth)
+    g4 = gather-more g3 (omega arith) (w .begun .ofc) (plain-nn a b p (met .w3)) (weight-most (weight-within (hd .ina) (hd .inb) up)) (h .fourth)
 
     back : (s t u v : ℤ) → pos 0 +ℤ s +ℤ t +ℤ u +ℤ v ≡ s +ℤ t +ℤ u +ℤ v
     back s t u v = by-ring (s ∷ t ∷ u ∷ v ∷ []) (search sides depth 9) refl
@@ -255,7 +262,7 @@ weights {A} {B} {f} {e} {r} pa pb k w t h = record {
 abbrev pub meetingWith : ℕ → Vec3 → Gathered → Answer
 meetingWith v d g = record { number = 0; verdict = v; direction = d; count = g .count; pairs = g .pairs }
 
-pub carries-separate : {A B : Piece} {n : Vec3} → Below n A B → Upto directionReach n → Carries A B (record { number = 0; verdict = 1; direction = n; count = 0; pairs = noPairs })
+pub carries-separate : {gap : ℕ} {A B : Piece} {n : Vec3} → Below n gap A B → Upto directionReach n → Carries gap A B (record { number = 0; verdict = 1; direction = n; count = 0; pairs = noPairs })
 carries-separate {n} h u = record {
   right = inl (refl, record { direction = n; parts = h });
   small = u;
@@ -267,9 +274,10 @@ carries-separate {n} h u = record {
   meeting = λ f. absurd (f refl);
   four = refl;
   rest = λ k _. none-at k;
+  uncubed = λ _ k. ap (λ (p : Pair). p .cube) (none-at k);
 }
 
-pub carries-touching : {A B : Piece} {d : Vec3} {g : Gathered} → Supported d A B → Upto directionReach d → Weights A B g → Carries A B (meetingWith touching d g)
+pub carries-touching : {gap : ℕ} {A B : Piece} {d : Vec3} {g : Gathered} → Supported d gap A B → Upto directionReach d → Weights gap A B g → Carries gap A B (meetingWith touching d g)
 carries-touching {d} {g} h u w = record {
   right = inr (inl (refl, record { meeting = record { pairs = take (g .count) (g .pairs); balance = w .balance }; direction = d; supported = h }));
   small = u;
@@ -281,9 +289,10 @@ carries-touching {d} {g} h u w = record {
   meeting = λ _. w .balance;
   four = w .four;
   rest = w .rest;
+  uncubed = w .uncubed;
 }
 
-pub carries-penetrating : {A B : Piece} {g : Gathered} → ((d : Vec3) → Supported d A B → ⊥) → Weights A B g → Carries A B (meetingWith penetrating origin g)
+pub carries-penetrating : {gap : ℕ} {A B : Piece} {g : Gathered} → ((d : Vec3) → Supported d gap A B → ⊥) → Weights gap A B g → Carries gap A B (meetingWith penetrating origin g)
 carries-penetrating {g} h w = record {
   right = inr (inr (refl, record { meeting = record { pairs = take (g .count) (g .pairs); balance = w .balance }; free = h }));
   small = origin-upto directionReach;
@@ -295,12 +304,13 @@ carries-penetrating {g} h w = record {
   meeting = λ _. w .balance;
   four = w .four;
   rest = w .rest;
+  uncubed = w .uncubed;
 }
 
 -- ---- E1: where four points weigh something
-pub penetrating-at-once : {A B : Piece} {f : Frame} {e : Ended} {r : Gathered} (k : Framed A B f) → Walked A B (f .widths) origin (framePlaces f) e → e .met ≡ true → Weighed e r
-    → r .count ≡ 4 → (d : Vec3) → Supported d A B → ⊥
-penetrating-at-once {A} {B} {f} {e} k w t h n d s =
+pub penetrating-at-once : {gap : ℕ} {A B : Piece} {f : Frame} {e : Ended} {r : Gathered} (k : Framed gap A B f) → Walked A B (f .widths) origin (framePlaces f) e → e .met ≡ true → Weighed gap e r
+    → r .count ≡ 4 → (d : Vec3) → Supported d gap A B → ⊥
+penetrating-at-once {gap} {A} {B} {f} {e} k w t h n d s =
     e1 (spread-of (w .last)) (spread-of (w .begun .ofa)) (spread-of (w .begun .ofb)) (spread-of (w .begun .ofc)) (plain a b c (f .a .at) (f .b .at) (f .c .at) (w .begun .held .inv) .hp)
     (above-zero (plain-nn p b c (w .met t .w1)) (four .second)) (above-zero (plain-nn a p c (w .met t .w2)) (four .third)) (above-zero (plain-nn a b p (w .met t .w3)) (four .fourth))
     (cramer a b c p) (λ z. four .first (ap (λ u. pos 0 -ℤ u) z)) _ (walled-of (k .dropping) s)
@@ -321,29 +331,29 @@ penetrating-at-once {A} {B} {f} {e} k w t h n d s =
     four = four-weigh h n
 
 -- ---- the weak walk's ends
-module _ {A B : Piece} {f : Frame} {q : Vec3} {v : Three} {e : Ended} (k : Framed A B f)
+module _ {gap : ℕ} {A B : Piece} {f : Frame} {q : Vec3} {v : Three} {e : Ended} (k : Framed gap A B f)
     (eq : q ≡ sum3 (f .a .at) (f .b .at) (f .c .at)) (ev : v ≡ framePlaces f) (w : Walked A B (f .widths) q v e) where
   weak : Walked A B (f .widths) (sum3 (f .a .at) (f .b .at) (f .c .at)) (framePlaces f) e
   weak = subst (λ u. Walked A B (f .widths) u (framePlaces f) e) eq (subst (λ u. Walked A B (f .widths) q u e) ev w)
 
-  pub touching-by : e .met ≡ false → Supported (e .normal) A B
+  pub touching-by : e .met ≡ false → Supported (e .normal) gap A B
   touching-by t =
       supported-of (w1 (e .normal) (f .a .at) (f .b .at) (f .c .at) (spread-of (k .ofa)) (spread-of (k .ofb)) (spread-of (k .ofc))
       (subst (λ n. Under bigK (dot n (sum3 (f .a .at) (f .b .at) (f .c .at)))) (sym (weak .normal-is))
-      (front-under (weak .begun .setting .inq) (weak .begun .held .ina) (weak .begun .held .inb) (weak .begun .held .inc))) (weak .apart t))
+      (front-under (weak .begun .setting .inq) (weak .begun .held .ina) (weak .begun .held .inb) (weak .begun .held .inc))) (weak .apart t)) (k .of-gap)
 
-  pub penetrating-by : e .met ≡ true → (d : Vec3) → Supported d A B → ⊥
+  pub penetrating-by : e .met ≡ true → (d : Vec3) → Supported d gap A B → ⊥
   penetrating-by t d s =
       w2 (f .a .at) (f .b .at) (f .c .at) (spread-of (k .ofa)) (spread-of (k .ofb)) (spread-of (k .ofc)) (k .free) (spread-of (weak .last)) (spread-of (weak .begun .ofa))
       (spread-of (weak .begun .ofb)) (spread-of (weak .begun .ofc)) (weak .met t) _ (walled-of (k .dropping) s)
 
 -- ---- what the functions between are asked with
-pub record MeetingAt (A B : Piece) (f : Frame) (e : Ended) : Type 0 where
-  pub framed : Framed A B f
+pub record MeetingAt (gap : ℕ) (A B : Piece) (f : Frame) (e : Ended) : Type 0 where
+  pub framed : Framed gap A B f
   pub walked : Walked A B (f .widths) origin (framePlaces f) e
   pub met : e .met ≡ true
 
-pub near-at : {A B : Piece} {f : Frame} {e : Ended} → Placed A → Placed B → MeetingAt A B f e → Near e
+pub near-at : {gap : ℕ} {A B : Piece} {f : Frame} {e : Ended} → Placed A → Placed B → MeetingAt gap A B f e → Near e
 near-at pa pb m =
     record {
       portal = record { ina = m .walked .begun .held .ina; inb = m .walked .begun .held .inb; inc = m .walked .begun .held .inc };
@@ -377,25 +387,37 @@ not-either : {P Q : Type 0} → P × Q → (P → ⊥) ⊎ (Q → ⊥) → ⊥
 not-either h (inl f) = f (h .0)
 not-either h (inr f) = f (h .1)
 
-pub answered-long : {A B : Piece} {r : Answer} → BadLength A B → r ≡ nothing listLength → Answers A B r
-answered-long f e = record { refusal = inl (f, ap (λ r. r .number) e); zeros = λ _. e ∙ ap nothing (sym (ap (λ r. r .number) e)); carries = λ z. absurd (let k = ap (λ r. r .number) e in omega arith) }
+-- of a gap that is not negative: it is near the widest, or it does not fit
+pub gap-below : {gap : ℤ} → gap <ℤ pos 0 → GapFits gap → ⊥
+gap-below {gap} h f = clashℤ h (subst (λ z. pos 0 ≤ℤ z) (sym (f .natural)) (nn-pos (natAbs gap)))
 
-pub answered-far : {A B : Piece} {r : Answer} → BothFit A B → OutOfReach A B → r ≡ nothing placedRange → Answers A B r
-answered-far f n e =
-    record {
-      refusal = inr (not-either f, inl (n, ap (λ r. r .number) e));
-      zeros = λ _. e ∙ ap nothing (sym (ap (λ r. r .number) e));
-      carries = λ z. absurd
-          (let k = ap (λ r. r .number) e in omega arith);
-    }
+pub gap-decided : {b : Bool} {gap : ℤ} → pos 0 ≤ℤ gap → Decides b (Within gapMost gap) → Decides b (GapFits gap)
+gap-decided h d = record { yes = λ t. record { natural = nat-of h; below = let k = d .yes t .abs in omega arith }; no = λ f g. d .no f (record { abs = let k = g .below in omega arith }) }
 
-pub answered : {A B : Piece} {r : Answer} → BothFit A B → BothNear A B → (r .number ≡ 0) × Carries A B r → Answers A B r
-answered f n c = record { refusal = inr (not-either f, inr (not-either n, c .0)); zeros = λ g. absurd (g (c .0)); carries = λ _. c .1 }
+module _ {gap : ℤ} {A B : Piece} {r : Answer} where
+  -- a refused answer: its number, and every other value zero
+  refused-by : (n : ℕ) → (n ≡ 0 → ⊥) → Lowest (refusals gap A B) n → r ≡ nothing n → Answers gap A B r
+  refused-by n f h e =
+      let k = ap (λ (x : Answer). x .number) e in
+      record { refusal = subst (Lowest (refusals gap A B)) (sym k) h; zeros = λ _. e ∙ ap nothing (sym k); carries = λ z. absurd (f (sym k ∙ z)) }
+
+  pub answered-long : BadLength A B → r ≡ nothing listLength → Answers gap A B r
+  answered-long f = refused-by listLength (λ z. omega arith) (inl (f, refl))
+
+  pub answered-far : BothFit A B → OutOfReach A B → r ≡ nothing placedRange → Answers gap A B r
+  answered-far f n = refused-by placedRange (λ z. omega arith) (inr (not-either f, inl (n, refl)))
+
+  pub answered-wide : BothFit A B → BothNear A B → (GapFits gap → ⊥) → r ≡ nothing gapRefused → Answers gap A B r
+  answered-wide f n w = refused-by gapRefused (λ z. omega arith) (inr (not-either f, inr (not-either n, inl (w, refl))))
+
+  pub answered : {g : ℕ} → BothFit A B → BothNear A B → GapFits gap → g ≡ natAbs gap → (r .number ≡ 0) × Carries g A B r → Answers gap A B r
+  answered f n w e c =
+      record { refusal = inr (not-either f, inr (not-either n, inr (λ h. h w, c .0))); zeros = λ g. absurd (g (c .0)); carries = λ _. subst (λ k. Carries k A B r) e (c .1) }
 
 pub answer-eq : {n v k : ℕ} {d d′ : Vec3} {ps ps′ : List Pair} → d ≡ d′ → ps ≡ ps′
     → _≡_ {A = Answer} (record { number = n; verdict = v; direction = d; count = k; pairs = ps }) (record { number = n; verdict = v; direction = d′; count = k; pairs = ps′ })
 answer-eq {n} {v} {k} e f = λ i. record { number = n; verdict = v; direction = e i; count = k; pairs = f i }
 
 -- the same verdict with an equal direction and equal pairs
-pub carries-is : {A B : Piece} {q r : Answer} → q ≡ r → (r .number ≡ 0) × Carries A B r → (q .number ≡ 0) × Carries A B q
-carries-is {A} {B} e h = subst (λ r. (r .number ≡ 0) × Carries A B r) (sym e) h
+pub carries-is : {gap : ℕ} {A B : Piece} {q r : Answer} → q ≡ r → (r .number ≡ 0) × Carries gap A B r → (q .number ≡ 0) × Carries gap A B q
+carries-is {gap} {A} {B} e h = subst (λ r. (r .number ≡ 0) × Carries gap A B r) (sym e) h

@@ -3,28 +3,30 @@
 use mathlib.Core.Path.{_≡_, refl, sym, ap, ap₂, _∙_, subst}
 use mathlib.Core.List.{[], _∷_}
 use mathlib.Core.Bool.{Bool, true, false}
-use mathlib.Core.Logic.{inl, inr, ⊎-elim}
+use mathlib.Core.Logic.{_⊎_, inl, inr, ⊎-elim}
 use Prim.Native.Nat.{ℕ, zero, suc, _+_, _-_, _≤_, _<_}
 use native.Mathlib.Omega.{arith}
 use lib.Dec.{T, leb, leb→le, eqb}
 use mir.Syntax.{w64}
 use mir.Val.{ofZ}
-use lib.IntN.{ℤ, pos, negsuc, _+ℤ_, _-ℤ_, _*ℤ_}
+use lib.IntN.{ℤ, pos, negsuc, negℤ, _+ℤ_, _-ℤ_, _*ℤ_}
 use lib.Signed.{_≤ℤ_, _<ℤ_, clashℤ, ltZ}
 use borrow.Author.Tests.{lt-ltb, le-ltb, eqb-true, eqb-false}
 use Rattle.ints.specs.Quote.{sides, by-ring}
-use Rattle.ints.specs.Order.{le-comb, lt-comb, nn-of-le, pos-of-lt, nn-mul, pos-mul, lt→≤ℤ, eq-comb, z-diff, z-add, lt-or-ge, nn-pos}
-use Rattle.ints.specs.Sign.{lt-other}
+use Rattle.ints.specs.Order.{le-comb, lt-comb, nn-of-le, pos-of-lt, nn-mul, pos-mul, pos-add, pos-suc, pos-lt, <ℤ-neg, le-or-lt, lt→≤ℤ, eq-comb, z-diff, z-add, lt-or-ge, nn-pos}
+use Rattle.ints.specs.Sign.{lt-other, gt-other}
 use Rattle.ints.specs.Bounds.{Within, known, within, natAbs-add, natAbs-neg}
+use Rattle.limits.specs.Limits.{gapMost}
 use Rattle.limits.specs.Decides.{Decides}
 use Rattle.limits.specs.DecidesLaws.{holds, fails}
 use Rattle.space.specs.declared.Vec3.{Vec3}
 use Rattle.space.specs.Vectors.{dot, cross, minus, plus, scale, det, env1, origin, opposite, vec-eq}
 use Rattle.space.specs.Ranges.{Upto, normalReach, upto-le}
-use Rattle.space.specs.Verdicts.{Piece, cornerCount, cornerAt, Supported}
+use Rattle.space.specs.Verdicts.{Piece, cornerCount, cornerAt, cubeCorners, widenedAt, Supported}
+use Rattle.space.specs.NoGapLaws.{unwidened}
 use Rattle.space.specs.Lists.{Placed}
 use Rattle.verdict_portal.specs.declared.Three.{Three}
-use Rattle.verdict_portal.specs.Flat.{had, vec, ones, Signs, unit, nextAxis, coordinate, turnedRound, axis, had-plus}
+use Rattle.verdict_portal.specs.Flat.{had, vec, ones, unit, nextAxis, coordinate, axis, had-plus}
 use Rattle.verdict_portal.specs.Flat.{f2-plane, f2-line, times-other, Drops, planeRow, drops-plane, drops-line, lifted, lifted-dot, square-pos}
 use Rattle.verdict_portal.specs.Exits.{Walled}
 use Rattle.verdict_portal.specs.Portal.{det-rot}
@@ -32,10 +34,10 @@ use Rattle.verdict_walk.specs.declared.support.Difference.{Difference}
 use Rattle.verdict_walk.specs.declared.path.Portal.{Portal}
 use Rattle.verdict_frame.specs.declared.frame.Frame.{Frame}
 use Rattle.verdict_frame.specs.declared.frame.Found.{Found}
-use Rattle.verdict_walk.specs.Points.{Spread, Tagged, Box}
-use Rattle.verdict_walk.specs.PointLaws.{ones-signs, some-corner, plain-at, corner-upto}
+use Rattle.verdict_walk.specs.Points.{signAt, cubeSigns, bitOf, cubeOf, Spread, Tagged, Box, cubeWidths, Signed}
+use Rattle.verdict_walk.specs.PointLaws.{some-corner, plain-at, corner-upto, spread-at, widened-spread, bit-below, bit-above, cube-inside, looking}
 use Rattle.verdict_portal.specs.Rounds.{zero-bits}
-use Rattle.verdict_frame.specs.Frames.{differenceAt, Level, Rows, pickLeft, pickRight, leftAt, rightAt, scanned, AllLevel, Sought, ScannedAt, Dropping, Framed, thickOf}
+use Rattle.verdict_frame.specs.Frames.{differenceAt, Level, Rows, pickLeft, pickRight, leftAt, rightAt, scanned, AllLevel, Sought, ScannedAt, Dropping, Framed, thickOf, Widened}
 use Rattle.verdict_frame.specs.Frames.{solidFrame, planeFrame, AxisOf, lineFrame, lineRows, pointFrame, unitRows, OnLine, InPlane, planeRows, Some, Wide, FirstPortal}
 
 -- ---- the sizes of a sum and of a difference
@@ -53,10 +55,10 @@ minus-upto {k} t u v e = subst (Upto k) (sym e) (record { ux = minus-within t (u
 
 pub difference-tagged : {A B : Piece} {i j : ℕ} {p : Difference} → p ≡ differenceAt A B i j → i < cornerCount A → j < cornerCount B → Tagged A B origin p
 difference-tagged {A} {B} {i} {j} e hi hj =
-    subst (Tagged A B origin) (sym e) (record { of-first = hi; of-second = hj; signs = ones; are = ones-signs; is = sym (plain-at (cornerAt A i) (cornerAt B j) ones) })
+    subst (Tagged A B origin) (sym e) (record { of-first = hi; of-cube = omega arith; of-second = hj; is = sym (plain-at (cornerAt A i) (cornerAt B j) (cubeSigns 0)) })
 
 pub plain-tagged : {A B : Piece} {p : Difference} → Tagged A B origin p → p .at ≡ minus (cornerAt A (p .first)) (cornerAt B (p .second))
-plain-tagged {A} {B} {p} t = t .is ∙ plain-at (cornerAt A (p .first)) (cornerAt B (p .second)) (t .signs)
+plain-tagged {A} {B} {p} t = t .is ∙ plain-at (cornerAt A (p .first)) (cornerAt B (p .second)) (cubeSigns (p .cube))
 
 pub difference-upto : {A B : Piece} {i j : ℕ} → Placed A → Placed B → i < cornerCount A → j < cornerCount B → Upto 262144 (minus (cornerAt A i) (cornerAt B j))
 difference-upto {i} {j} pa pb hi hj = minus-upto tt (corner-upto pa i hi) (corner-upto pb j hj) refl
@@ -113,34 +115,29 @@ scanned-at {A} {B} {k} {p} pa pb h ei ej e =
     let t = difference-tagged f (left-inside k (cornerCount A) (some-corner pa)) (right-inside k (cornerCount A) (cornerCount B) (some-corner pb) h) in
     record { tagged = t; near = upto-le tt (tagged-upto pa pb t); is = ap (λ q. q .at) f }
 
-thick-tagged : {A B : Piece} {g w : Vec3} {p : Difference} → Tagged A B origin p → (s : Vec3) → Signs s → w ≡ had s g → Tagged A B g (thickOf p w)
-thick-tagged {p} t s hs e = record { of-first = t .of-first; of-second = t .of-second; signs = s; are = hs; is = ap₂ plus (plain-tagged t) e }
+-- w is a corner of the box of half-widths g, the one that it looks at
+abbrev Corner : Vec3 → Vec3 → Type 0
+Corner g w = w ≡ had (cubeSigns (cubeOf w)) g
 
-ones-had : (g : Vec3) → g ≡ had ones g
-ones-had g = vec-eq (r (g .x)) (r (g .y)) (r (g .z))
-  where
-    r : (u : ℤ) → u ≡ pos 1 *ℤ u
-    r u = by-ring (u ∷ []) (search sides depth 9) refl
+thick-tagged : {A B : Piece} {g w : Vec3} {p : Difference} → Tagged A B origin p → Corner g w → Tagged A B g (thickOf p w)
+thick-tagged {w} t e = record { of-first = t .of-first; of-cube = cube-inside w; of-second = t .of-second; is = ap₂ plus (plain-tagged t) e }
 
-downs : Vec3
-downs = vec (negsuc 0) (negsuc 0) (negsuc 0)
+unit-corner : (j : ℕ) → Corner (unit j) (unit j) × Corner (unit j) (opposite (unit j))
+unit-corner zero = (refl, refl)
+unit-corner (suc zero) = (refl, refl)
+unit-corner (suc (suc j)) = (refl, refl)
 
-downs-had : (g : Vec3) → opposite g ≡ had downs g
-unfolding downs
-downs-had g = vec-eq (r (g .x)) (r (g .y)) (r (g .z))
-  where
-    r : (u : ℤ) → pos 0 -ℤ u ≡ negsuc 0 *ℤ u
-    r u = by-ring (u ∷ []) (search sides depth 9) refl
+two-corner : (j : ℕ) → Corner (plus (unit j) (unit (nextAxis j))) (plus (unit j) (unit (nextAxis j))) × Corner (plus (unit j) (unit (nextAxis j))) (minus (unit (nextAxis j)) (unit j)) ×
+    Corner (plus (unit j) (unit (nextAxis j))) (minus (unit j) (unit (nextAxis j)))
+two-corner zero = (refl, refl, refl)
+two-corner (suc zero) = (refl, refl, refl)
+two-corner (suc (suc j)) = (refl, refl, refl)
 
-downs-signs : Signs downs
-unfolding downs
-downs-signs = record { one-x = inr refl; one-y = inr refl; one-z = inr refl }
-
-bit-box : (x y z : ℕ) → Within 4096 (pos x) → Within 4096 (pos y) → Within 4096 (pos z) → Box (vec (pos x) (pos y) (pos z))
+bit-box : (x y z : ℕ) → Within gapMost (pos x) → Within gapMost (pos y) → Within gapMost (pos z) → Box (vec (pos x) (pos y) (pos z))
 bit-box x y z u v w = record { nn-x = nn-pos x; nn-y = nn-pos y; nn-z = nn-pos z; most = record { ux = u; uy = v; uz = w } }
 
-small : (n : ℕ) → T (leb n 4096) → Within 4096 (pos n)
-small n t = record { abs = leb→le n 4096 t }
+small : (n : ℕ) → T (leb n gapMost) → Within gapMost (pos n)
+small n t = record { abs = leb→le n gapMost t }
 
 unit-box : (j : ℕ) → Box (unit j)
 unit-box zero = bit-box 1 0 0 (small 1 tt) (small 0 tt) (small 0 tt)
@@ -152,19 +149,21 @@ two-box zero = bit-box 1 1 0 (small 1 tt) (small 1 tt) (small 0 tt)
 two-box (suc zero) = bit-box 0 1 1 (small 0 tt) (small 1 tt) (small 1 tt)
 two-box (suc (suc j)) = bit-box 1 0 1 (small 1 tt) (small 0 tt) (small 1 tt)
 
--- ---- W5: a direction of touching lifts to one that walls the thick set
-pub walled-of : {A B : Piece} {g d : Vec3} (w : Dropping A B g) → Supported d A B → Walled (Spread A B g) (lifted (w .k) (w .r1) (w .r2) (w .r3) d)
-walled-of {A} {B} {g} {d} w s = record {
+-- ---- W5: a direction of touching lifts to one that walls the set
+pub walled-of : {gap : ℕ} {A B : Piece} {g d : Vec3} (w : Dropping gap A B g) → Supported d gap A B → Walled (Spread A B g) (lifted (w .k) (w .r1) (w .r2) (w .r3) d)
+walled-of {gap} {A} {B} {g} {d} w s = record {
   flat = λ y m. subst (λ z. z ≤ℤ pos 0) (sym (along m))
-      (low (cornerAt A (m .first)) (cornerAt B (m .second)) (s .above .all (m .first) (m .second) (m .of-first) (m .of-second)));
+      (low (widenedAt gap A (m .first) (m .cube)) (cornerAt B (m .second)) (s .above .all (m .first) (m .cube) (m .second) (m .of-first) (m .of-cube) (m .of-second)));
   some = other;
 }
   where
     square : pos 0 <ℤ (w .k *ℤ w .k)
     square = square-pos (w .k) (w .nonzero)
 
-    along : {y : Vec3} (m : Spread A B g y) → dot (lifted (w .k) (w .r1) (w .r2) (w .r3) d) y ≡ w .k *ℤ w .k *ℤ dot d (minus (cornerAt A (m .first)) (cornerAt B (m .second)))
-    along m = ap (dot (lifted (w .k) (w .r1) (w .r2) (w .r3) d)) (m .is) ∙ lifted-dot (w .drop (m .first) (m .second) (m .of-first) (m .of-second) (m .signs) (m .are)) d
+    along : {y : Vec3} (m : Spread A B g y)
+        → dot (lifted (w .k) (w .r1) (w .r2) (w .r3) d) y ≡ w .k *ℤ w .k *ℤ dot d (minus (widenedAt gap A (m .first) (m .cube)) (cornerAt B (m .second)))
+    along m =
+        ap (dot (lifted (w .k) (w .r1) (w .r2) (w .r3) d)) (m .is) ∙ lifted-dot (w .drop (m .first) (m .cube) (m .second) (m .of-first) (m .of-cube) (m .of-second)) d
 
     falls : (k : ℤ) (a b : Vec3) → pos 0 -ℤ k *ℤ k *ℤ dot d (minus a b) ≡ k *ℤ k *ℤ (dot d b -ℤ dot d a)
     falls k a b = by-ring (k ∷ env1 d (env1 a (env1 b []))) (search sides depth 40) refl
@@ -175,37 +174,57 @@ walled-of {A} {B} {g} {d} w s = record {
     less : (a b : Vec3) → dot d a <ℤ dot d b → (w .k *ℤ w .k *ℤ dot d (minus a b)) <ℤ pos 0
     less a b h = lt-comb (pos-mul square (pos-of-lt h)) (falls (w .k) a b)
 
-    -- the parted pair, with the box's first corner
+    -- the point of the parted pair
     there : Vec3
-    there = plus (minus (cornerAt A (s .parted .first)) (cornerAt B (s .parted .second))) (had ones g)
+    there = plus (minus (cornerAt A (s .parted .first)) (cornerAt B (s .parted .second))) (had (cubeSigns (s .parted .cube)) g)
 
     here : Spread A B g there
-    here = record { first = s .parted .first; second = s .parted .second; of-first = s .parted .of-first; of-second = s .parted .of-second; signs = ones; are = ones-signs; is = refl }
+    here = spread-at (s .parted .first) (s .parted .cube) (s .parted .second) (s .parted .of-first) (s .parted .of-cube) (s .parted .of-second)
 
     zero : (v : Vec3) → dot origin v ≡ pos 0
     zero v = by-ring (env1 v []) (search sides depth 9) refl
 
     other : lifted (w .k) (w .r1) (w .r2) (w .r3) d ≡ origin → ⊥
-    other e = lt-other (less (cornerAt A (s .parted .first)) (cornerAt B (s .parted .second)) (s .parted .less)) (sym (along here) ∙ ap (λ v. dot v there) e ∙ zero there)
+    other e = lt-other (less (widenedAt gap A (s .parted .first) (s .parted .cube)) (cornerAt B (s .parted .second)) (s .parted .less)) (sym (along here) ∙ ap (λ v. dot v there) e ∙ zero there)
 
-dropping-solid : (A B : Piece) → Dropping A B origin
+-- with no gap the base is the plain difference
+plain-drop : (A B : Piece) (g : Vec3) (k : ℤ) (r1 r2 r3 : Vec3)
+    → ((i j : ℕ) → i < cornerCount A → j < cornerCount B → (s : Vec3) → Drops k r1 r2 r3 (plus (minus (cornerAt A i) (cornerAt B j)) (had s g)) (minus (cornerAt A i) (cornerAt B j)))
+    → (i c j : ℕ) → i < cornerCount A → c < cubeCorners → j < cornerCount B
+    → Drops k r1 r2 r3 (plus (minus (cornerAt A i) (cornerAt B j)) (had (cubeSigns c) g)) (minus (widenedAt 0 A i c) (cornerAt B j))
+plain-drop A B g k r1 r2 r3 h i c j hi hc hj =
+    subst (λ v. Drops k r1 r2 r3 (plus (minus (cornerAt A i) (cornerAt B j)) (had (cubeSigns c) g)) (minus v (cornerAt B j))) (sym (unwidened A i c)) (h i j hi hj (cubeSigns c))
+
+one-other : pos 1 ≡ pos 0 → ⊥
+one-other e = subst (λ z. T (ltZ (pos 0) z)) e tt
+
+-- a point that is its base drops to itself
+itself : (y′ y : Vec3) → y′ ≡ y → Drops (pos 1) (unit 0) (unit 1) (unit 2) y′ y
+itself y′ y e = subst (λ v. Drops (pos 1) (unit 0) (unit 1) (unit 2) v y) (sym e) (record {
+  dx = by-ring (env1 y []) (search sides depth 9) refl;
+  dy = by-ring (env1 y []) (search sides depth 9) refl;
+  dz = by-ring (env1 y []) (search sides depth 9) refl;
+})
+
+dropping-solid : (A B : Piece) → Dropping 0 A B origin
 dropping-solid A B = record {
   k = pos 1;
   r1 = unit 0;
   r2 = unit 1;
   r3 = unit 2;
-  nonzero = λ e. subst (λ z. T (ltZ (pos 0) z)) e tt;
-  drop = λ i j hi hj s hs. go (minus (cornerAt A i) (cornerAt B j)) s;
+  nonzero = one-other;
+  drop = plain-drop A B origin (pos 1) (unit 0) (unit 1) (unit 2) (λ i j hi hj s. itself _ _ (plain-at (cornerAt A i) (cornerAt B j) s));
 }
-  where
-    go : (y s : Vec3) → Drops (pos 1) (unit 0) (unit 1) (unit 2) (plus y (had s origin)) y
-    go y s =
-        record {
-          dx = by-ring (env1 y (env1 s [])) (search sides depth 9) refl;
-          dy = by-ring (env1 y (env1 s [])) (search sides depth 9) refl;
-          dz = by-ring (env1 y (env1 s []))
-              (search sides depth 9) refl;
-        }
+
+dropping-cube : (gap : ℕ) (A B : Piece) → Dropping gap A B (cubeWidths gap)
+dropping-cube gap A B = record {
+  k = pos 1;
+  r1 = unit 0;
+  r2 = unit 1;
+  r3 = unit 2;
+  nonzero = one-other;
+  drop = λ i c j hi hc hj. itself _ _ (widened-spread gap A (cornerAt B j) i c);
+}
 
 pub origin-upto : (n : ℕ) → Upto n origin
 origin-upto n = record { ux = zero-within; uy = zero-within; uz = zero-within }
@@ -213,24 +232,26 @@ origin-upto n = record { ux = zero-within; uy = zero-within; uz = zero-within }
     zero-within : Within n (pos 0)
     zero-within = record { abs = omega arith }
 
-pub framed-solid : {A B : Piece} {a b c : Difference} → Tagged A B origin a → Tagged A B origin b → Tagged A B origin c → (det (a .at) (b .at) (c .at) ≡ pos 0 → ⊥) → Framed A B (solidFrame a b c)
+pub framed-solid : {A B : Piece} {a b c : Difference} → Tagged A B origin a → Tagged A B origin b → Tagged A B origin c → (det (a .at) (b .at) (c .at) ≡ pos 0 → ⊥) → Framed 0 A B (solidFrame a b c)
 framed-solid {A} {B} ta tb tc f = record {
   ofa = ta;
   ofb = tb;
   ofc = tc;
   free = f;
   box = bit-box 0 0 0 (small 0 tt) (small 0 tt) (small 0 tt);
+  of-gap = inl refl;
   dropping = dropping-solid A B;
 }
 
 pub framed-plane : {A B : Piece} {a b : Difference} {n : Vec3} (j : ℕ) → Tagged A B origin a → Tagged A B origin b → n ≡ cross (a .at) (b .at) → (coordinate j n ≡ pos 0 → ⊥)
-    → AllLevel (record { a = n; b = n; c = n }) A B → Framed A B (planeFrame a b j)
+    → AllLevel (record { a = n; b = n; c = n }) A B → Framed 0 A B (planeFrame a b j)
 framed-plane {A} {B} {a} {b} {n} j ta tb en f h = record {
-  ofa = thick-tagged ta ones ones-signs (ones-had (unit j));
-  ofb = thick-tagged tb ones ones-signs (ones-had (unit j));
-  ofc = thick-tagged ta downs downs-signs (downs-had (unit j));
+  ofa = thick-tagged ta (unit-corner j .0);
+  ofb = thick-tagged tb (unit-corner j .0);
+  ofc = thick-tagged ta (unit-corner j .1);
   free = λ e. times-other (negsuc 1) (dot n (unit j)) (λ k. subst (λ z. T (ltZ z (pos 0))) k tt) other (ap (λ v. negsuc 1 *ℤ dot v (unit j)) en ∙ sym (f2-plane (a .at) (b .at) (unit j)) ∙ e);
   box = unit-box j;
+  of-gap = inl refl;
   dropping = record {
     k = dot n (unit j);
     r1 = planeRow n (unit j) 0;
@@ -238,9 +259,9 @@ framed-plane {A} {B} {a} {b} {n} j ta tb en f h = record {
     r3 = planeRow n (unit j) 2;
     nonzero = other;
     drop =
-        λ i l hi hl s hs. subst
+        plain-drop A B (unit j) (dot n (unit j)) (planeRow n (unit j) 0) (planeRow n (unit j) 1) (planeRow n (unit j) 2) (λ i l hi hl s. subst
         (λ v. Drops (dot n (unit j)) (planeRow n (unit j) 0) (planeRow n (unit j) 1) (planeRow n (unit j) 2) (plus (minus (cornerAt A i) (cornerAt B l)) v) (minus (cornerAt A i) (cornerAt B l)))
-        (sym (axis j .spread s)) (drops-plane n (unit j) (minus (cornerAt A i) (cornerAt B l)) (coordinate j s) (h .all i l hi hl .one));
+        (sym (axis j .spread s)) (drops-plane n (unit j) (minus (cornerAt A i) (cornerAt B l)) (coordinate j s) (h .all i l hi hl .one)));
   };
 }
   where
@@ -257,27 +278,26 @@ not-along c y f e =
       three = by-ring (env1 c (env1 y [])) (search sides depth 9) refl ∙ ap (λ v. pos 0 -ℤ v .z) e;
     })
 
-pub framed-line : {A B : Piece} {a : Difference} (j : ℕ) → Tagged A B origin a → (coordinate j (a .at) ≡ pos 0 → ⊥) → AllLevel (lineRows (a .at)) A B → Framed A B (lineFrame a j)
+pub framed-line : {A B : Piece} {a : Difference} (j : ℕ) → Tagged A B origin a → (coordinate j (a .at) ≡ pos 0 → ⊥) → AllLevel (lineRows (a .at)) A B → Framed 0 A B (lineFrame a j)
 framed-line {A} {B} {a} j ta nz h = record {
-  ofa = thick-tagged ta ones ones-signs (ones-had (plus e f));
-  ofb = thick-tagged ta (turnedRound (nextAxis j)) (axis (nextAxis j) .signs)
-      (minus-plus (e) (f) ∙ sym (had-plus (turnedRound (nextAxis j)) e f ∙ ap₂ plus (axis (nextAxis j) .own) (axis (nextAxis j) .other)));
-  ofc = thick-tagged ta (turnedRound (nextAxis (nextAxis j))) (axis (nextAxis (nextAxis j)) .signs)
-      (back (e) (f) ∙ sym (had-plus (turnedRound (nextAxis (nextAxis j))) e f ∙ ap₂ plus (axis (nextAxis j) .before) (axis (nextAxis (nextAxis j)) .own)));
+  ofa = thick-tagged ta (two-corner (nextAxis j) .0);
+  ofb = thick-tagged ta (two-corner (nextAxis j) .1);
+  ofc = thick-tagged ta (two-corner (nextAxis j) .2);
   free = λ k. times-other (pos 4) (det (a .at) e f) (λ z. subst (λ w. T (ltZ (pos 0) w)) z tt) other (sym (f2-line (a .at) e f) ∙ k);
   box = two-box (nextAxis j);
+  of-gap = inl refl;
   dropping = record {
     k = det e f (a .at);
     r1 = scale (a .at .x) (cross e f);
     r2 = scale (a .at .y) (cross e f);
     r3 = scale (a .at .z) (cross e f);
     nonzero = λ k. other (sym (det-rot (a .at) e f) ∙ k);
-    drop = λ i l hi hl s hs.
+    drop = plain-drop A B (plus e f) (det e f (a .at)) (scale (a .at .x) (cross e f)) (scale (a .at .y) (cross e f)) (scale (a .at .z) (cross e f)) (λ i l hi hl s.
         let y = h .all i l hi hl in
         subst (λ v. Drops (det e f (a .at)) (scale (a .at .x) (cross e f)) (scale (a .at .y) (cross e f)) (scale (a .at .z) (cross e f)) (plus (minus (cornerAt A i) (cornerAt B l)) v)
         (minus (cornerAt A i) (cornerAt B l)))
         (sym (had-plus s e f ∙ ap₂ plus (axis (nextAxis j) .spread s) (axis (nextAxis (nextAxis j)) .spread s)))
-        (drops-line (a .at) e f (minus (cornerAt A i) (cornerAt B l)) (coordinate (nextAxis j) s) (coordinate (nextAxis (nextAxis j)) s) (y .one) (y .two) (y .three));
+        (drops-line (a .at) e f (minus (cornerAt A i) (cornerAt B l)) (coordinate (nextAxis j) s) (coordinate (nextAxis (nextAxis j)) s) (y .one) (y .two) (y .three)));
   };
 }
   where
@@ -289,18 +309,6 @@ framed-line {A} {B} {a} j ta nz h = record {
 
     other : det (a .at) e f ≡ pos 0 → ⊥
     other k = nz (sym (axis j .box (a .at)) ∙ k)
-
-    minus-plus : (e f : Vec3) → minus f e ≡ plus (minus origin e) f
-    minus-plus e f = vec-eq (r (e .x) (f .x)) (r (e .y) (f .y)) (r (e .z) (f .z))
-      where
-        r : (u v : ℤ) → v -ℤ u ≡ (pos 0 -ℤ u) +ℤ v
-        r u v = by-ring (u ∷ v ∷ []) (search sides depth 9) refl
-
-    back : (e f : Vec3) → minus e f ≡ plus e (minus origin f)
-    back e f = vec-eq (r (e .x) (f .x)) (r (e .y) (f .y)) (r (e .z) (f .z))
-      where
-        r : (u v : ℤ) → u -ℤ v ≡ u +ℤ (pos 0 -ℤ v)
-        r u v = by-ring (u ∷ v ∷ []) (search sides depth 9) refl
 
 pub level-origin : (y : Vec3) → Level unitRows y → y ≡ origin
 level-origin y l = vec-eq (sym (r0 y) ∙ l .one) (sym (r1 y) ∙ l .two) (sym (r2 y) ∙ l .three)
@@ -317,37 +325,104 @@ level-origin y l = vec-eq (sym (r0 y) ∙ l .one) (sym (r1 y) ∙ l .two) (sym (
 pub not-origin : (y : Vec3) → (Level unitRows y → ⊥) → y ≡ origin → ⊥
 not-origin y f e = f (record { one = ap (dot (unit 0)) e; two = ap (dot (unit 1)) e; three = ap (dot (unit 2)) e })
 
-pub framed-point : {A B : Piece} → Placed A → Placed B → AllLevel unitRows A B → Framed A B pointFrame
+pub framed-point : {A B : Piece} → Placed A → Placed B → AllLevel unitRows A B → Framed 0 A B pointFrame
 framed-point {A} {B} pa pb h = record {
-  ofa = tag ones ones-signs;
-  ofb = tag (turnedRound 0) (axis 0 .signs);
-  ofc = tag (turnedRound 1) (axis 1 .signs);
+  ofa = tag 7 (omega arith);
+  ofb = tag 3 (omega arith);
+  ofc = tag 5 (omega arith);
   free = λ k. subst (λ z. T (ltZ (pos 0) z)) k tt;
   box = bit-box 1 1 1 (small 1 tt) (small 1 tt) (small 1 tt);
+  of-gap = inl refl;
   dropping = record {
     k = pos 1;
     r1 = origin;
     r2 = origin;
     r3 = origin;
-    nonzero = one;
-    drop = λ i j hi hj s hs. none (plus (minus (cornerAt A i) (cornerAt B j)) (had s ones)) (minus (cornerAt A i) (cornerAt B j)) (level-origin _ (h .all i j hi hj));
+    nonzero = one-other;
+    drop = plain-drop A B ones (pos 1) origin origin origin
+        (λ i j hi hj s. none (plus (minus (cornerAt A i) (cornerAt B j)) (had s ones)) (minus (cornerAt A i) (cornerAt B j)) (level-origin _ (h .all i j hi hj)));
   };
 }
   where
-    one : pos 1 ≡ pos 0 → ⊥
-    one k = subst (λ z. T (ltZ (pos 0) z)) k tt
-
     base : minus (cornerAt A 0) (cornerAt B 0) ≡ origin
     base = level-origin _ (h .all 0 0 (some-corner pa) (some-corner pb))
 
-    tag : (s : Vec3) → Signs s → Tagged A B ones (record { at = plus origin (had s ones); first = 0; second = 0 })
-    tag s hs = record { of-first = some-corner pa; of-second = some-corner pb; signs = s; are = hs; is = ap (λ v. plus v (had s ones)) (sym base) }
+    tag : (c : ℕ) → c < cubeCorners → Tagged A B ones (record { at = plus origin (had (cubeSigns c) ones); first = 0; cube = c; second = 0 })
+    tag c hc = record { of-first = some-corner pa; of-cube = hc; of-second = some-corner pb; is = ap (λ v. plus v (had (cubeSigns c) ones)) (sym base) }
 
     none : (y′ y : Vec3) → y ≡ origin → Drops (pos 1) origin origin origin y′ y
     none y′ y e = record { dx = zeros y′ ∙ ap (λ v. pos 1 *ℤ v .x) (sym e); dy = zeros y′ ∙ ap (λ v. pos 1 *ℤ v .y) (sym e); dz = zeros y′ ∙ ap (λ v. pos 1 *ℤ v .z) (sym e) }
       where
         zeros : (v : Vec3) → dot origin v ≡ pos 0
         zeros v = by-ring (env1 v []) (search sides depth 9) refl
+
+-- ---- with a gap: the cube about the first difference
+-- a coordinate of a corner of the cube, and the side of the cube that it is on
+up-corner : (g : ℤ) → pos 0 <ℤ g → signAt (bitOf g) *ℤ g ≡ g
+up-corner g h = ap (λ k. signAt k *ℤ g) (bit-above (lt→≤ℤ h)) ∙ by-ring (g ∷ []) (search sides depth 9) refl
+
+down-corner : (g : ℤ) → pos 0 <ℤ g → signAt (bitOf (pos 0 -ℤ g)) *ℤ g ≡ pos 0 -ℤ g
+down-corner g h = ap (λ k. signAt k *ℤ g) (bit-below {n = pos 0 -ℤ g} (lt-comb h (by-ring (g ∷ []) (search sides depth 9) refl))) ∙ by-ring (g ∷ []) (search sides depth 9) refl
+
+-- away from the origin's height: up where p is not below it, else down
+away-is : (n g r : ℤ) → Signed n g r → ((pos 0 ≤ℤ n) × (r ≡ g)) ⊎ ((n <ℤ pos 0) × (r ≡ pos 0 -ℤ g))
+away-is n g r s = ⊎-elim
+    (λ h. inl (h, s .is ∙ ap (λ k. signAt k *ℤ g) (bit-above h) ∙ by-ring (g ∷ []) (search sides depth 9) refl))
+    (λ h. inr (h, s .is ∙ ap (λ k. signAt k *ℤ g) (bit-below h) ∙ by-ring (g ∷ []) (search sides depth 9) refl)) (le-or-lt (pos 0) n)
+
+-- the determinant of the three: 4 g² times the height that they have
+f2-cube : (p : Vec3) (g s : ℤ) → det (plus p (vec g g s)) (plus p (vec (pos 0 -ℤ g) g s)) (plus p (vec g (pos 0 -ℤ g) s)) ≡ pos 4 *ℤ (g *ℤ g) *ℤ (p .z +ℤ s)
+f2-cube p g s = by-ring (g ∷ s ∷ env1 p []) (search sides depth 40) refl
+
+cube-corner : (g w : Vec3) → signAt (bitOf (w .x)) *ℤ g .x ≡ w .x → signAt (bitOf (w .y)) *ℤ g .y ≡ w .y → signAt (bitOf (w .z)) *ℤ g .z ≡ w .z → Corner g w
+cube-corner g w ex ey ez = sym (ap (λ s. had s g) (looking w) ∙ vec-eq ex ey ez)
+
+pub framed-gap : {gap : ℕ} {A B : Piece} {p : Difference} {f : Frame} → Placed A → Placed B → (gap ≡ 0 → ⊥) → gap ≤ gapMost → p ≡ differenceAt A B 0 0 → Widened gap p f → Framed gap A B f
+framed-gap {gap} {A} {B} {p} pa pb f most ep w = subst (Framed gap A B) (sym (w .is)) (record {
+  ofa = thick-tagged base (cube-corner (cubeWidths gap) (vec g g (w .away)) up up side);
+  ofb = thick-tagged base (cube-corner (cubeWidths gap) (vec (pos 0 -ℤ g) g (w .away)) down up side);
+  ofc = thick-tagged base (cube-corner (cubeWidths gap) (vec g (pos 0 -ℤ g) (w .away)) up down side);
+  free = λ e. times-other (pos 4 *ℤ (g *ℤ g)) (p .at .z +ℤ w .away) (λ z. gt-other (pos-mul (pos-suc 3) (pos-mul some some)) z) (apart height) (sym (f2-cube (p .at) g (w .away)) ∙ e);
+  box = bit-box gap gap gap near near near;
+  of-gap = inr refl;
+  dropping = dropping-cube gap A B;
+})
+  where
+    g : ℤ
+    g = pos gap
+
+    some : pos 0 <ℤ g
+    some = pos-lt (omega (arith, f))
+
+    near : Within gapMost g
+    near = record { abs = most }
+
+    base : Tagged A B origin p
+    base = difference-tagged ep (some-corner pa) (some-corner pb)
+
+    up : signAt (bitOf g) *ℤ g ≡ g
+    up = up-corner g some
+
+    down : signAt (bitOf (pos 0 -ℤ g)) *ℤ g ≡ pos 0 -ℤ g
+    down = down-corner g some
+
+    height : ((pos 0 ≤ℤ p .at .z) × (w .away ≡ g)) ⊎ ((p .at .z <ℤ pos 0) × (w .away ≡ pos 0 -ℤ g))
+    height = away-is (p .at .z) g (w .away) (w .of)
+
+    side : signAt (bitOf (w .away)) *ℤ g ≡ w .away
+    side = ⊎-elim
+        (λ h. subst (λ u. signAt (bitOf u) *ℤ g ≡ u) (sym (h .1)) up)
+        (λ h. subst (λ u. signAt (bitOf u) *ℤ g ≡ u) (sym (h .1)) down) height
+
+    apart : ((pos 0 ≤ℤ p .at .z) × (w .away ≡ g)) ⊎ ((p .at .z <ℤ pos 0) × (w .away ≡ pos 0 -ℤ g)) → p .at .z +ℤ w .away ≡ pos 0 → ⊥
+    apart (inl h) e = gt-other (pos-add some (h .0)) (swap g (p .at .z) ∙ ap (λ u. p .at .z +ℤ u) (sym (h .1)) ∙ e)
+      where
+        swap : (u v : ℤ) → u +ℤ v ≡ v +ℤ u
+        swap u v = by-ring (u ∷ v ∷ []) (search sides depth 9) refl
+    apart (inr h) e = lt-other (lt-comb (pos-add some (lt→≤ℤ (<ℤ-neg (h .0)))) (swap g (p .at .z))) (ap (λ u. p .at .z +ℤ u) (sym (h .1)) ∙ e)
+      where
+        swap : (u v : ℤ) → pos 0 -ℤ (v +ℤ (pos 0 -ℤ u)) ≡ u +ℤ negℤ v
+        swap u v = by-ring (u ∷ v ∷ []) (search sides depth 9) refl
 
 -- ---- by the number of an axis
 pub next-rest : (j : ℕ) → (j ≡ 0 → ⊥) → (j ≡ 1 → ⊥) → 0 ≡ nextAxis j
@@ -364,8 +439,8 @@ pub axis-last : {v : Vec3} → v .x ≡ pos 0 → v .y ≡ pos 0 → AxisOf v 2
 axis-last ex ey = record { other = λ f ez. f (vec-eq ex ey ez) }
 
 -- ---- points
-pub point-eq : {u v : Vec3} {i j : ℕ} → u ≡ v → _≡_ {A = Difference} (record { at = u; first = i; second = j }) (record { at = v; first = i; second = j })
-point-eq {i} {j} e = ap (λ w. record { at = w; first = i; second = j }) e
+pub point-eq : {u v : Vec3} {i c d j : ℕ} → u ≡ v → c ≡ d → _≡_ {A = Difference} (record { at = u; first = i; cube = c; second = j }) (record { at = v; first = i; cube = d; second = j })
+point-eq {i} {j} e f = ap₂ (λ w d. record { at = w; first = i; cube = d; second = j }) e f
 
 -- ---- a dot that is tested for 0 by its bits
 pub zero-decided : {z : ℤ} {C : Type 0} → Within 679395106750464000 z → (z ≡ pos 0 → C) → (C → z ≡ pos 0) → Decides (eqb (ofZ w64 z) 0) C
@@ -396,21 +471,21 @@ cross-near {a} {b} pa pb h e = subst (Upto 137438953472) (sym e) (go (a .at) (b 
     go u v hu hv = record { ux = within (search known depth 9) tt; uy = within (search known depth 9) tt; uz = within (search known depth 9) tt }
 
 -- ---- the four frames, from what the scans found
-pub framed-at-a-point : {A B : Piece} {rows : Three} {r : Found} {f : Frame} → Placed A → Placed B → rows ≡ unitRows → Sought rows A B r → r .found ≡ false → f ≡ pointFrame → Framed A B f
-framed-at-a-point {A} {B} pa pb er s e ef = subst (Framed A B) (sym ef) (framed-point pa pb (level-is er (s .none e)))
+pub framed-at-a-point : {A B : Piece} {rows : Three} {r : Found} {f : Frame} → Placed A → Placed B → rows ≡ unitRows → Sought rows A B r → r .found ≡ false → f ≡ pointFrame → Framed 0 A B f
+framed-at-a-point {A} {B} pa pb er s e ef = subst (Framed 0 A B) (sym ef) (framed-point pa pb (level-is er (s .none e)))
 
 pub framed-on-a-line : {A B : Piece} {a : Difference} {rows : Three} {r : Found} {f : Frame} → Placed A → Placed B → Some A B a → rows ≡ lineRows (a .at) → Sought rows A B r → r .found ≡ false
-    → OnLine a f → Framed A B f
-framed-on-a-line {A} {B} pa pb h er s e l = subst (Framed A B) (sym (l .is)) (framed-line (l .axis-is) (h .tagged) (l .of .other (h .other)) (level-is er (s .none e)))
+    → OnLine a f → Framed 0 A B f
+framed-on-a-line {A} {B} pa pb h er s e l = subst (Framed 0 A B) (sym (l .is)) (framed-line (l .axis-is) (h .tagged) (l .of .other (h .other)) (level-is er (s .none e)))
 
 pub framed-in-a-plane : {A B : Piece} {a b : Difference} {n : Vec3} {rows : Three} {r : Found} {f : Frame} → Placed A → Placed B → Wide A B a b → n ≡ cross (a .at) (b .at) → rows ≡ planeRows n
-    → Sought rows A B r → r .found ≡ false → InPlane a b n f → Framed A B f
+    → Sought rows A B r → r .found ≡ false → InPlane a b n f → Framed 0 A B f
 framed-in-a-plane {A} {B} pa pb h en er s e l =
-    subst (Framed A B) (sym (l .is))
+    subst (Framed 0 A B) (sym (l .is))
     (framed-plane (l .axis-is) (h .tagged-a) (h .tagged-b) en (l .of .other (λ z. h .other (sym en ∙ z))) (level-is er (s .none e)))
 
 pub framed-solid-of : {A B : Piece} {a b : Difference} {n : Vec3} {rows : Three} {r : Found} → Wide A B a b → n ≡ cross (a .at) (b .at) → rows ≡ planeRows n → Sought rows A B r → r .found ≡ true
-    → Framed A B (solidFrame a b (r .point))
+    → Framed 0 A B (solidFrame a b (r .point))
 framed-solid-of {A} {B} {a} {b} {n} {r} h en er s e = framed-solid (h .tagged-a) (h .tagged-b) (s .tagged e)
     (λ z. s .apart e (subst (λ w. Level w (r .point .at)) (sym er) (let k = ap (λ v. dot v (r .point .at)) en ∙ z in record { one = k; two = k; three = k })))
 

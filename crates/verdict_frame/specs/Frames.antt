@@ -1,27 +1,27 @@
--- The frame of a difference: three points of it that are independent, with a box where the difference is flat.
--- r = 3: nowhere flat, no box; r = 2: in a plane; r = 1: on a line; r = 0: at the origin. F1 to F4 of the walk's proof.
+-- The frame of a difference: three points of it that are independent, with a box where a gap widens it, or where it is flat.
+-- With no gap r = 3: nowhere flat, no box; r = 2: in a plane; r = 1: on a line; r = 0: at the origin. F1 to F4 of the walk's proof.
 use mathlib.Core.Path.{_≡_}
 use mathlib.Core.Bool.{Bool, true, false}
 use mathlib.Core.Logic.{_⊎_}
 use Prim.Native.Nat.{ℕ, _-_, _<_}
 use lib.Dec.{ltb}
-use lib.IntN.{ℤ, pos, negsuc}
+use lib.IntN.{ℤ, pos, negsuc, _-ℤ_}
 use lib.Signed.{_≤ℤ_, _<ℤ_}
 use Rattle.space.specs.declared.Vec3.{Vec3}
 use Rattle.space.specs.Vectors.{dot, cross, minus, plus, det, origin, opposite}
 use Rattle.space.specs.Ranges.{Upto, pointReach, normalReach}
-use Rattle.space.specs.Verdicts.{Piece, cornerCount, cornerAt}
+use Rattle.space.specs.Verdicts.{Piece, cornerCount, cornerAt, cubeCorners, widenedAt}
 use Rattle.verdict_portal.specs.declared.Three.{Three}
-use Rattle.verdict_portal.specs.Flat.{had, vec, ones, Signs, unit, nextAxis, coordinate, axis, Drops, lineRow}
+use Rattle.verdict_portal.specs.Flat.{had, vec, ones, unit, nextAxis, coordinate, Drops, lineRow}
 use Rattle.verdict_walk.specs.declared.support.Difference.{Difference}
 use Rattle.verdict_walk.specs.declared.path.Portal.{Portal}
 use Rattle.verdict_frame.specs.declared.frame.Frame.{Frame}
 use Rattle.verdict_frame.specs.declared.frame.Found.{Found}
-use Rattle.verdict_walk.specs.Points.{Tagged, Box}
+use Rattle.verdict_walk.specs.Points.{cubeSigns, cubeOf, Tagged, Box, cubeWidths, BoxOf, Signed}
 
 -- ---- a difference of two corners, with their numbers
 abbrev pub differenceAt : Piece → Piece → ℕ → ℕ → Difference
-differenceAt A B i j = record { at = minus (cornerAt A i) (cornerAt B j); first = i; second = j }
+differenceAt A B i j = record { at = minus (cornerAt A i) (cornerAt B j); first = i; cube = 0; second = j }
 
 -- ---- level with three rows
 pub record Level (rows : Three) (y : Vec3) : Type 0 where
@@ -70,26 +70,42 @@ pub record ScannedAt (A B : Piece) (k : ℕ) (p : Difference) : Type 0 where
   pub is : p .at ≡ scanned A B k
 
 -- ---- what a frame is to say
--- every thick point drops to its base by one linear map
-pub record Dropping (A B : Piece) (g : Vec3) : Type 0 where
+-- every point drops by one linear map to its base, the difference of the widened first piece that it stands for
+pub record Dropping (gap : ℕ) (A B : Piece) (g : Vec3) : Type 0 where
   pub k : ℤ
   pub r1 : Vec3
   pub r2 : Vec3
   pub r3 : Vec3
   pub nonzero : k ≡ pos 0 → ⊥
-  pub drop : (i j : ℕ) → i < cornerCount A → j < cornerCount B → (s : Vec3) → Signs s → Drops k r1 r2 r3 (plus (minus (cornerAt A i) (cornerAt B j)) (had s g)) (minus (cornerAt A i) (cornerAt B j))
+  pub drop : (i c j : ℕ) → i < cornerCount A → c < cubeCorners → j < cornerCount B
+      → Drops k r1 r2 r3 (plus (minus (cornerAt A i) (cornerAt B j)) (had (cubeSigns c) g)) (minus (widenedAt gap A i c) (cornerAt B j))
 
-pub record Framed (A B : Piece) (r : Frame) : Type 0 where
+pub record Framed (gap : ℕ) (A B : Piece) (r : Frame) : Type 0 where
   pub ofa : Tagged A B (r .widths) (r .a)
   pub ofb : Tagged A B (r .widths) (r .b)
   pub ofc : Tagged A B (r .widths) (r .c)
   pub free : det (r .a .at) (r .b .at) (r .c .at) ≡ pos 0 → ⊥
   pub box : Box (r .widths)
-  pub dropping : Dropping A B (r .widths)
+  pub of-gap : BoxOf gap (r .widths)
+  pub dropping : Dropping gap A B (r .widths)
 
 -- ---- what is thick
 abbrev pub thickOf : Difference → Vec3 → Difference
-thickOf p w = record { at = plus (p .at) w; first = p .first; second = p .second }
+thickOf p w = record { at = plus (p .at) w; first = p .first; cube = cubeOf w; second = p .second }
+
+-- ---- with a gap: three corners of its cube about p, on the side away from the origin's height
+abbrev pub gapFrame : ℕ → Difference → ℤ → Frame
+gapFrame gap p away = record {
+  widths = cubeWidths gap;
+  a = thickOf p (vec (pos gap) (pos gap) away);
+  b = thickOf p (vec (pos 0 -ℤ pos gap) (pos gap) away);
+  c = thickOf p (vec (pos gap) (pos 0 -ℤ pos gap) away);
+}
+
+pub record Widened (gap : ℕ) (p : Difference) (r : Frame) : Type 0 where
+  pub away : ℤ
+  pub of : Signed (p .at .z) (pos gap) away
+  pub is : r ≡ gapFrame gap p away
 
 -- ---- r = 3: nowhere flat
 abbrev pub solidFrame : Difference → Difference → Difference → Frame
@@ -120,9 +136,9 @@ lineRows c = record { a = lineRow c 0; b = lineRow c 1; c = lineRow c 2 }
 abbrev pub pointFrame : Frame
 pointFrame = record {
   widths = ones;
-  a = record { at = vec (pos 1) (pos 1) (pos 1); first = 0; second = 0 };
-  b = record { at = vec (negsuc 0) (pos 1) (pos 1); first = 0; second = 0 };
-  c = record { at = vec (pos 1) (negsuc 0) (pos 1); first = 0; second = 0 };
+  a = record { at = vec (pos 1) (pos 1) (pos 1); first = 0; cube = 7; second = 0 };
+  b = record { at = vec (negsuc 0) (pos 1) (pos 1); first = 0; cube = 3; second = 0 };
+  c = record { at = vec (pos 1) (negsuc 0) (pos 1); first = 0; cube = 5; second = 0 };
 }
 
 -- level with these is the origin

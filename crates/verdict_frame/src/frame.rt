@@ -1,7 +1,7 @@
 // A frame of the difference: three of its points that do not lie in a plane with the origin, or, where it is flat, such points of it made thick.
-// One scan, asked for what is not level with three rows, finds each of them.
+// One scan, asked for what is not level with three rows, finds each of them; where a gap widens the difference, no scan is needed.
 ghost use mathlib.Core.Path.{_≡_};
-ghost use Prim.Native.Nat.{_<_};
+ghost use Prim.Native.Nat.{_≤_, _<_};
 ghost use lib.IntN.{pos};
 ghost use lib.Signed.{ltZ};
 ghost use Rattle.space.specs.Vectors.{det};
@@ -10,9 +10,10 @@ ghost use Rattle.space.specs.Verdicts.{cornerCount};
 ghost use Rattle.space.specs.Lists.{Placed};
 ghost use Rattle.verdict_walk.specs.Ends.{Corners};
 ghost use Rattle.limits.specs.Decides.{Decides};
+ghost use Rattle.limits.specs.Limits.{gapMost};
 ghost use Rattle.verdict_portal.specs.Flat.{unit, nextAxis};
 ghost use Rattle.verdict_frame.specs.Frames.{differenceAt, Rows, Level, leftAt, rightAt, Sought, AxisOf, thickOf, pointFrame, OnLine, InPlane};
-ghost use Rattle.verdict_frame.specs.Frames.{unitRows, lineRows, planeRows, Some, Wide, Framed, framePlaces, FirstPortal};
+ghost use Rattle.verdict_frame.specs.Frames.{unitRows, lineRows, planeRows, Some, Wide, Framed, Widened, framePlaces, FirstPortal};
 ghost use Rattle.verdict_portal.specs.Exits.{sum3};
 use space::Vec3;
 use space::cross;
@@ -25,6 +26,8 @@ use verdict_portal::Three;
 use verdict_walk::Difference;
 use verdict_walk::Portal;
 use verdict_walk::corner;
+use verdict_walk::cube_of;
+use verdict_walk::signed;
 
 // What a scan of the differences found: the first that is not level with three rows.
 pub struct Found {
@@ -32,7 +35,7 @@ pub struct Found {
     pub point: Difference,
 }
 
-// Three independent points of the difference, and the half-widths of the box that makes it thick where it is flat.
+// Three independent points of the difference, and the half-widths of the box: the gap's cube, or what makes the difference thick where it is flat.
 pub struct Frame {
     pub widths: Vec3,
     pub a: Difference,
@@ -52,6 +55,7 @@ fn difference(first: &[i32], second: &[i32], i: usize, j: usize) -> Difference
     Difference {
         at: at,
         first: i,
+        cube: 0,
         second: j,
     }
 }
@@ -159,7 +163,7 @@ fn unit(j: usize) -> Vec3
     Vec3 { x: 0, y: 0, z: 1 }
 }
 
-// p moved by w: still of the same two corners.
+// p moved by w, which is a corner of the box: still of the same two corners.
 fn thick(p: Difference, w: Vec3) -> Difference
     requires { ⌜ Upto pointReach (p .at) × Upto pointReach w ⌝ }
     ensures { λ r. ⌜ r ≡ thickOf p w ⌝ }
@@ -171,6 +175,7 @@ fn thick(p: Difference, w: Vec3) -> Difference
     Difference {
         at: at,
         first: i,
+        cube: cube_of(w),
         second: j,
     }
 }
@@ -185,16 +190,19 @@ fn at_a_point() -> Frame
     let a = Difference {
         at: u,
         first: 0,
+        cube: 7,
         second: 0,
     };
     let b = Difference {
         at: v,
         first: 0,
+        cube: 3,
         second: 0,
     };
     let c = Difference {
         at: w,
         first: 0,
+        cube: 5,
         second: 0,
     };
     Frame {
@@ -273,7 +281,7 @@ fn plane_rows(n: Vec3) -> Three
 fn frame_in_space(a: Difference, b: Difference, first: &[i32], second: &[i32]) -> Frame
     requires { ⌜ Placed (now first) × Placed (now second) ⌝ }
     requires { ⌜ Wide (now first) (now second) a b ⌝ }
-    ensures { λ r. ⌜ Framed (now (first .entry)) (now (second .entry)) r ⌝ }
+    ensures { λ r. ⌜ Framed 0 (now (first .entry)) (now (second .entry)) r ⌝ }
 {
     let u = a.at;
     let v = b.at;
@@ -296,7 +304,7 @@ fn frame_in_space(a: Difference, b: Difference, first: &[i32], second: &[i32]) -
 fn frame_off_the_point(a: Difference, first: &[i32], second: &[i32]) -> Frame
     requires { ⌜ Placed (now first) × Placed (now second) ⌝ }
     requires { ⌜ Some (now first) (now second) a ⌝ }
-    ensures { λ r. ⌜ Framed (now (first .entry)) (now (second .entry)) r ⌝ }
+    ensures { λ r. ⌜ Framed 0 (now (first .entry)) (now (second .entry)) r ⌝ }
 {
     let v = a.at;
     let s = seek(line_rows(v), first, second);
@@ -308,10 +316,10 @@ fn frame_off_the_point(a: Difference, first: &[i32], second: &[i32]) -> Frame
     on_a_line(a)
 }
 
-// Three independent points of the difference of two lists, thick where it is flat.
-pub fn frame_of(first: &[i32], second: &[i32]) -> Frame
+// Three independent points of the difference of two lists with no gap, thick where it is flat.
+fn plain_frame(first: &[i32], second: &[i32]) -> Frame
     requires { ⌜ Placed (now first) × Placed (now second) ⌝ }
-    ensures { λ r. ⌜ Framed (now (first .entry)) (now (second .entry)) r ⌝ }
+    ensures { λ r. ⌜ Framed 0 (now (first .entry)) (now (second .entry)) r ⌝ }
 {
     let s = seek(unit_rows(), first, second);
     let found = s.found;
@@ -320,6 +328,65 @@ pub fn frame_of(first: &[i32], second: &[i32]) -> Frame
         return frame_off_the_point(a, first, second);
     }
     at_a_point()
+}
+
+// A gap as a number of steps to either side.
+fn steps(gap: u32) -> i64
+    requires { ⌜ gap ≤ gapMost ⌝ }
+    ensures { λ r. ⌜ r ≡ pos gap ⌝ }
+{
+    gap as i64
+}
+
+// The gap's cube about p: it is solid, and three of its corners away from the origin's height are independent.
+fn widened(gap: u32, p: Difference) -> Frame
+    requires { ⌜ gap ≤ gapMost ⌝ }
+    requires { ⌜ Upto 262144 (p .at) ⌝ }
+    ensures { λ r. ⌜ Widened gap p r ⌝ }
+{
+    let y = p.at;
+    let height = y.z;
+    let g = steps(gap);
+    let away = signed(height, g);
+    Frame {
+        widths: Vec3 { x: g, y: g, z: g },
+        a: thick(
+            p,
+            Vec3 {
+                x: g,
+                y: g,
+                z: away,
+            },
+        ),
+        b: thick(
+            p,
+            Vec3 {
+                x: -g,
+                y: g,
+                z: away,
+            },
+        ),
+        c: thick(
+            p,
+            Vec3 {
+                x: g,
+                y: -g,
+                z: away,
+            },
+        ),
+    }
+}
+
+// Three independent points of the difference of two lists, the first widened by a gap.
+pub fn frame_of(gap: u32, first: &[i32], second: &[i32]) -> Frame
+    requires { ⌜ gap ≤ gapMost ⌝ }
+    requires { ⌜ Placed (now first) × Placed (now second) ⌝ }
+    ensures { λ r. ⌜ Framed gap (now (first .entry)) (now (second .entry)) r ⌝ }
+{
+    if gap == 0 {
+        return plain_frame(first, second);
+    }
+    widened(gap, difference(first, second, 0, 0))
 }
 
 pub fn frame_places(f: Frame) -> Three

@@ -1,4 +1,4 @@
-// Where a walk starts: three independent points of the difference of two corner lists, made thick where it is flat.
+// Where a walk starts: three independent points of the difference of two corner lists, widened by a gap, or made thick where it is flat.
 // The portal that they make, and the shift of the weak walk.
 mod frame;
 

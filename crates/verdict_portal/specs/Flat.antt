@@ -2,7 +2,7 @@
 -- The determinants of the thick frames, how a thick point drops to its base, and how a direction lifts (F2, F4, W5).
 use mathlib.Core.Path.{_≡_, refl, sym, _∙_, subst}
 use mathlib.Core.List.{[], _∷_}
-use mathlib.Core.Logic.{_⊎_, inl, inr, ⊎-elim}
+use mathlib.Core.Logic.{_⊎_, ⊎-elim}
 use Prim.Native.Nat.{ℕ, zero, suc}
 use lib.IntN.{ℤ, pos, negsuc, negℤ, _+ℤ_, _-ℤ_, _*ℤ_, *ℤ-zero}
 use Rattle.ints.specs.Laws.{*ℤ-distribl}
@@ -10,7 +10,7 @@ use Rattle.ints.specs.Quote.{sides, by-ring}
 use lib.Signed.{_<ℤ_}
 use Rattle.ints.specs.Order.{zero-product, eq-comb, z-diff, z-add, trichotomy, pos-mul, <ℤ-neg}
 use Rattle.space.specs.declared.Vec3.{Vec3}
-use Rattle.space.specs.Vectors.{dot, cross, minus, plus, scale, det, env1, origin, opposite, vec-eq}
+use Rattle.space.specs.Vectors.{dot, cross, minus, plus, scale, det, env1, opposite, vec-eq}
 use Rattle.verdict_portal.specs.Portal.{ZeroSum, zero-sum-dot}
 
 -- coordinate by coordinate
@@ -48,20 +48,10 @@ coordinate zero v = v .x
 coordinate (suc zero) v = v .y
 coordinate (suc (suc j)) v = v .z
 
--- the signs that turn one axis round
-abbrev pub turnedRound : ℕ → Vec3
-turnedRound zero = vec (negsuc 0) (pos 1) (pos 1)
-turnedRound (suc zero) = vec (pos 1) (negsuc 0) (pos 1)
-turnedRound (suc (suc j)) = vec (pos 1) (pos 1) (negsuc 0)
-
 -- an axis as the table of flat sets needs it
 pub record FlatAxis (j : ℕ) : Type 0 where
   pub spread : (s : Vec3) → had s (unit j) ≡ scale (coordinate j s) (unit j)
   pub along : (v : Vec3) → dot v (unit j) ≡ coordinate j v
-  pub signs : Signs (turnedRound j)
-  pub own : had (turnedRound j) (unit j) ≡ minus origin (unit j)
-  pub other : had (turnedRound j) (unit (nextAxis j)) ≡ unit (nextAxis j)
-  pub before : had (turnedRound (nextAxis j)) (unit j) ≡ unit j
   pub box : (v : Vec3) → det v (unit (nextAxis j)) (unit (nextAxis (nextAxis j))) ≡ coordinate j v
 
 nil : (u v : ℤ) → u *ℤ pos 0 ≡ v *ℤ pos 0
@@ -71,28 +61,16 @@ pub axis : (j : ℕ) → FlatAxis j
 axis zero = record {
   spread = λ s. vec-eq refl (nil (s .y) (s .x)) (nil (s .z) (s .x));
   along = λ v. by-ring (env1 v []) (search sides depth 9) refl;
-  signs = record { one-x = inr refl; one-y = inl refl; one-z = inl refl };
-  own = refl;
-  other = refl;
-  before = refl;
   box = λ v. by-ring (env1 v []) (search sides depth 9) refl;
 }
 axis (suc zero) = record {
   spread = λ s. vec-eq (nil (s .x) (s .y)) refl (nil (s .z) (s .y));
   along = λ v. by-ring (env1 v []) (search sides depth 9) refl;
-  signs = record { one-x = inl refl; one-y = inr refl; one-z = inl refl };
-  own = refl;
-  other = refl;
-  before = refl;
   box = λ v. by-ring (env1 v []) (search sides depth 9) refl;
 }
 axis (suc (suc j)) = record {
   spread = λ s. vec-eq (nil (s .x) (s .z)) (nil (s .y) (s .z)) refl;
   along = λ v. by-ring (env1 v []) (search sides depth 9) refl;
-  signs = record { one-x = inl refl; one-y = inl refl; one-z = inr refl };
-  own = refl;
-  other = refl;
-  before = refl;
   box = λ v. by-ring (env1 v []) (search sides depth 9) refl;
 }
 

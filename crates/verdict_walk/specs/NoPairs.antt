@@ -6,7 +6,7 @@ use Rattle.space.specs.declared.Pair.{Pair}
 
 -- "Fields that a verdict doesn't carry are zero."
 abbrev pub noPair : Pair
-noPair = record { first = 0; second = 0; weight = pos 0 }
+noPair = record { first = 0; cube = 0; second = 0; weight = pos 0 }
 
 abbrev pub noPairs : List Pair
 noPairs = noPair ∷ noPair ∷ noPair ∷ noPair ∷ []

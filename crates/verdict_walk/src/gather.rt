@@ -1,11 +1,11 @@
 // The pairs of a meeting: each corner of the last portal, and the last point, with its weight by Cramer's rule.
-// A pair without weight is left out.
+// A pair without weight is left out, and with no gap a pair names cube corner 0.
 ghost use mathlib.Core.Path.{_≡_};
 ghost use Rattle.ints.specs.Bounds.{Within};
 ghost use Rattle.space.specs.Ranges.{weightReach};
 ghost use Rattle.verdict_walk.specs.NoPairs.{noPair, noPairs};
 ghost use Rattle.verdict_walk.specs.Ends.{Near};
-ghost use Rattle.verdict_walk.specs.Gather.{nothingYet, Pushed, Room, Weighed};
+ghost use Rattle.verdict_walk.specs.Gather.{named, nothingYet, Pushed, Room, Weighed};
 use crate::path::Ended;
 use crate::support::Difference;
 use space::Pair;
@@ -22,6 +22,7 @@ fn no_pair() -> Pair
 {
     Pair {
         first: 0,
+        cube: 0,
         second: 0,
         weight: 0,
     }
@@ -43,21 +44,34 @@ fn nothing_yet() -> Gathered
     }
 }
 
+// The cube corner that a pair names: with no gap 0, whatever corner of the box its point has.
+fn named(gap: u32, cube: usize) -> usize
+    ensures { λ r. ⌜ r ≡ named gap cube ⌝ }
+{
+    if gap == 0 {
+        return 0;
+    }
+    cube
+}
+
 // One point more with its weight, unless it weighs nothing.
-fn push(g: Gathered, p: Difference, w: i64) -> Gathered
+fn push(gap: u32, g: Gathered, p: Difference, w: i64) -> Gathered
     requires { ⌜ Room 3 g ⌝ }
     requires { ⌜ Within weightReach w ⌝ }
-    ensures { λ r. ⌜ Pushed g p w r ⌝ }
+    ensures { λ r. ⌜ Pushed gap g p w r ⌝ }
 {
     if w == 0 {
         return g;
     }
     let at = g.count;
     let first = p.first;
+    let box_corner = p.cube;
     let second = p.second;
+    let cube = named(gap, box_corner);
     let mut pairs = g.pairs;
     pairs[at] = Pair {
         first: first,
+        cube: cube,
         second: second,
         weight: w,
     };
@@ -68,9 +82,9 @@ fn push(g: Gathered, p: Difference, w: i64) -> Gathered
 }
 
 // The pairs of a meeting: the last point and the portal's three, with the weights that balance them.
-pub fn gathered_of(e: Ended) -> Gathered
+pub fn gathered_of(gap: u32, e: Ended) -> Gathered
     requires { ⌜ Near e ⌝ }
-    ensures { λ r. ⌜ Weighed e r ⌝ }
+    ensures { λ r. ⌜ Weighed gap e r ⌝ }
 {
     let t = e.portal;
     let p = e.last;
@@ -81,8 +95,8 @@ pub fn gathered_of(e: Ended) -> Gathered
     let y = b.at;
     let z = c.at;
     let v = p.at;
-    let one = push(nothing_yet(), p, 0 - det(x, y, z));
-    let two = push(one, a, det(v, y, z));
-    let three = push(two, b, det(x, v, z));
-    push(three, c, det(x, y, v))
+    let one = push(gap, nothing_yet(), p, 0 - det(x, y, z));
+    let two = push(gap, one, a, det(v, y, z));
+    let three = push(gap, two, b, det(x, v, z));
+    push(gap, three, c, det(x, y, v))
 }

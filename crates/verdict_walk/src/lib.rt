@@ -12,3 +12,5 @@ pub use path::Portal;
 pub use path::walk;
 pub use support::Difference;
 pub use support::corner;
+pub use support::cube_of;
+pub use support::signed;

@@ -1,23 +1,24 @@
 // The farthest point of the difference of two corner lists along a direction: two scans, one for each list.
-// A box of half-widths g is added, so that flat sets can be made thick.
+// A box of half-widths g is added: it is the gap's cube, and where there is no gap it can make flat sets thick.
 ghost use mathlib.Core.Path.{_≡_};
 ghost use Prim.Native.Nat.{_<_};
 ghost use Rattle.ints.specs.Bounds.{Within};
-ghost use Rattle.limits.specs.Limits.{placedReach};
+ghost use Rattle.limits.specs.Limits.{placedReach, gapMost};
 ghost use Rattle.space.specs.Ranges.{Upto, normalReach};
 ghost use Rattle.space.specs.Verdicts.{cornerCount, cornerAt};
 ghost use Rattle.space.specs.Lists.{Placed};
-ghost use Rattle.verdict_walk.specs.Points.{Farthest, Signed, Box, Boxed, Supports};
+ghost use Rattle.verdict_walk.specs.Points.{bitOf, cubeOf, Farthest, Signed, Box, Boxed, Supports};
 use space::Vec3;
 use space::dot;
 use space::minus;
 use space::opposite;
 use space::plus;
 
-// A point of the difference of two pieces, with the numbers of the two corners that it comes from.
+// A point of the difference of two pieces, with the numbers of the two corners that it comes from, and of the corner of the box.
 pub struct Difference {
     pub at: Vec3,
     pub first: usize,
+    pub cube: usize,
     pub second: usize,
 }
 
@@ -62,8 +63,8 @@ fn farthest(d: Vec3, s: &[i32]) -> usize
 }
 
 // g with the sign of n.
-fn signed(n: i64, g: i64) -> i64
-    requires { ⌜ Within 4096 g ⌝ }
+pub fn signed(n: i64, g: i64) -> i64
+    requires { ⌜ Within gapMost g ⌝ }
     ensures { λ r. ⌜ Signed n g r ⌝ }
 {
     if n < 0 {
@@ -74,7 +75,7 @@ fn signed(n: i64, g: i64) -> i64
 
 // The corner of the box that is farthest along n.
 fn boxed(n: Vec3, g: Vec3) -> Vec3
-    requires { ⌜ Upto normalReach n × Upto 4096 g ⌝ }
+    requires { ⌜ Upto normalReach n × Upto gapMost g ⌝ }
     ensures { λ r. ⌜ Boxed n g r ⌝ }
 {
     let nx = n.x;
@@ -88,6 +89,27 @@ fn boxed(n: Vec3, g: Vec3) -> Vec3
         y: signed(ny, gy),
         z: signed(nz, gz),
     }
+}
+
+// 1 where a coordinate is not negative, else 0.
+fn bit_of(along: i64) -> usize
+    ensures { λ r. ⌜ (r ≡ bitOf along) × (r < 2) ⌝ }
+{
+    if along < 0 {
+        return 0;
+    }
+    1
+}
+
+// The number of the box's corner that is farthest along n.
+pub fn cube_of(n: Vec3) -> usize
+    requires { ⌜ Upto normalReach n ⌝ }
+    ensures { λ r. ⌜ r ≡ cubeOf n ⌝ }
+{
+    let x = n.x;
+    let y = n.y;
+    let z = n.z;
+    4 * bit_of(x) + 2 * bit_of(y) + bit_of(z)
 }
 
 // The point of the difference that is farthest along n: the farthest corner of the first piece, the farthest of the second against n, the farthest of the box.
@@ -105,6 +127,7 @@ pub fn support(n: Vec3, g: Vec3, first: &[i32], second: &[i32]) -> Difference
     Difference {
         at: at,
         first: i,
+        cube: cube_of(n),
         second: j,
     }
 }

@@ -1,14 +1,16 @@
-//! Long runs on crowded small desks: shapes of a few steps at offsets of a few steps, so that pieces
-//! touch, overlap and part all the time; now and then all flat, far ends, full hulls, a full desk.
+//! Long runs on crowded small desks: shapes of a few steps at offsets of a few steps, so that pieces touch,
+//! overlap and part all the time; half of them with a gap; now and then all flat, far ends, full hulls, a full desk.
 
 use super::dice::Dice;
+use super::lists::any_gap;
 use super::script::Script;
 use super::shapes::{any, ball, block, many, numbers};
-use crate::desk::{turn_cell, Part, CORNERS, PLACES, SHAPES};
+use crate::desk::{turn_cell, Part, CORNERS, GAP_LIMIT, PLACES, SHAPES};
 use crate::point::{Number, Point};
 
-/// How a desk is laid out: shapes within reach, offsets at multiples of a unit.
+/// How a desk is laid out: a gap, shapes within reach, offsets at multiples of a unit.
 struct Layout {
+    gap: Number,
     reach: Number,
     unit: Number,
     spread: Number,
@@ -28,12 +30,20 @@ fn layout(dice: &mut Dice) -> Layout {
         _ => (65_536, 32_768, 1),
     };
     let most_places = dice.pick(&[2, 3, 4, 5, 6, 8, 8, 12, 16, 24]);
+    let flat = dice.once_in(4);
+    // What is flat is solid with a gap, so flat desks have one less often.
+    let gap: Number = match dice.below(if flat { 9 } else { 3 }) {
+        0 => dice.pick(&[1, 2]),
+        1 => dice.pick(&[unit, 2 * unit, reach]),
+        _ => 0,
+    };
     Layout {
+        gap: gap.min(GAP_LIMIT),
         reach,
         unit,
         spread,
         most_places,
-        flat: dice.once_in(4),
+        flat,
     }
 }
 
@@ -71,6 +81,7 @@ fn shape(dice: &mut Dice, layout: &Layout) -> Vec<Point> {
 pub fn stretch(script: &mut Script, dice: &mut Dice) {
     script.start_afresh();
     let layout = layout(dice);
+    set_gap(script, layout.gap);
     for _ in 0..2 + dice.below(6) {
         load(script, dice, &layout);
     }
@@ -81,6 +92,13 @@ pub fn stretch(script: &mut Script, dice: &mut Dice) {
     questions(script, dice);
     if dice.once_in(30) {
         full_desk(script, dice);
+    }
+}
+
+/// Sets the gap, where it is not the one that the desk has.
+fn set_gap(script: &mut Script, gap: Number) {
+    if script.desk().gap() != gap {
+        script.tell("gap", &[gap]);
     }
 }
 
@@ -117,7 +135,11 @@ fn place(script: &mut Script, dice: &mut Dice, layout: &Layout) {
 
 fn one_command(script: &mut Script, dice: &mut Dice, layout: &Layout) {
     let taken = script.desk().taken_places();
-    if loaded(script).is_empty() {
+    if taken.is_empty() && dice.once_in(8) {
+        // Taken or refused, what counts is the gap that was set last.
+        script.tell("gap", &[any_gap(dice)]);
+        set_gap(script, layout.gap);
+    } else if loaded(script).is_empty() {
         load(script, dice, layout);
     } else if taken.len() < 2 || (taken.len() < layout.most_places && dice.once_in(3)) {
         place(script, dice, layout);
@@ -143,10 +165,22 @@ fn with_pieces(script: &mut Script, dice: &mut Dice, layout: &Layout, taken: &[u
         35 => script.say("tallies"),
         36 => script.say("rows"),
         37 if dice.once_in(3) => script.say("marks"),
+        37 if dice.once_in(3) => script.tell("gap", &[any_gap(dice)]),
+        37 if dice.once_in(3) => emptied(script, dice, taken),
         38 if dice.once_in(2) => script.say("report"),
         39 => load(script, dice, layout),
         _ => place(script, dice, layout),
     }
+}
+
+/// All pieces are taken away, and another gap is set: of a step more or less, or any.
+fn emptied(script: &mut Script, dice: &mut Dice, taken: &[usize]) {
+    for &place in taken {
+        script.tell("remove", &[place as Number]);
+    }
+    let gap = script.desk().gap();
+    let any = any_gap(dice);
+    script.tell("gap", &[dice.pick(&[gap + 1, gap - 1, any])]);
 }
 
 /// A pair whose boxes are not apart, in either order, where there is one.
@@ -201,6 +235,7 @@ fn full_desk(script: &mut Script, dice: &mut Dice) {
     told.extend(numbers(&block([0; 3], [4; 3])));
     script.tell("load", &told);
     let layout = Layout {
+        gap: 0,
         reach: 4,
         unit: 2,
         spread: 3,
@@ -225,12 +260,14 @@ fn full_desk(script: &mut Script, dice: &mut Dice) {
 pub fn full_hulls(script: &mut Script, dice: &mut Dice) {
     script.start_afresh();
     let layout = Layout {
+        gap: dice.pick(&[0, 1, 20, 64]),
         reach: 1_000,
         unit: 100,
         spread: 80,
         most_places: PLACES,
         flat: false,
     };
+    set_gap(script, layout.gap);
     for shape in 0..SHAPES as Number {
         let mut told = vec![shape];
         told.extend(numbers(&ball(dice, layout.reach, CORNERS)));

@@ -1,51 +1,84 @@
-//! Pairs of corner lists: tiny and degenerate, boxes that share a face, edge or corner, flat ones in
-//! one plane, hulls brought into contact and then nudged, numbers at the ends, and lists to refuse.
+//! Pairs of corner lists: tiny and degenerate, boxes that share a face, edge or corner, flat ones in one plane, hulls brought
+//! into contact and then nudged, numbers at the ends, and lists to refuse; half of them with a gap, and set apart by it.
 
 use super::dice::Dice;
 use super::script::Script;
 use super::shapes::{any, ball, block, cloud, many, numbers};
-use crate::desk::CORNERS;
-use crate::point::{cross, dot, minus, plus, times, Number, Point};
+use crate::desk::{CORNERS, GAP_LIMIT};
+use crate::point::{cross, dot, minus, plus, times, Number, Point, AXES};
 
 const LIMIT: Number = 131_072;
 
 pub fn stretch(script: &mut Script, dice: &mut Dice) {
     for _ in 0..20 {
+        let gap = if dice.once_in(2) { 0 } else { gap(dice) };
         let (first, second) = match dice.below(26) {
-            0..=3 => tiny(dice),
-            4..=5 => (any(dice, 3), any(dice, 3)),
-            6..=9 => boxes(dice),
-            10..=13 => contact(dice, false),
-            14 => contact(dice, true),
+            0..=3 => set_apart(dice, gap, tiny),
+            4..=5 => set_apart(dice, gap, |dice| (any(dice, 3), any(dice, 3))),
+            6..=9 => set_apart(dice, gap, boxes),
+            10..=13 => contact(dice, gap, false),
+            14 => contact(dice, gap, true),
             15..=16 => extreme(dice),
-            17 => crossed(dice),
-            18..=23 => flats(dice),
+            17 => set_apart(dice, gap, crossed),
+            18..=23 => set_apart(dice, gap, flats),
             _ => {
                 refused(script, dice);
                 continue;
             }
         };
-        tell(script, &first, &second);
+        tell(script, gap, &first, &second);
         if dice.once_in(6) {
-            tell(script, &second, &first);
+            tell(script, gap, &second, &first);
         }
     }
 }
 
-fn tell(script: &mut Script, first: &[Point], second: &[Point]) {
-    tell_numbers(script, &numbers(first), &numbers(second));
+/// A gap of a step or two, of a millimetre and its neighbours, the greatest and its neighbour, or any.
+pub fn gap(dice: &mut Dice) -> Number {
+    match dice.below(4) {
+        0 => dice.pick(&[1, 2]),
+        1 => dice.pick(&[63, 64, 65]),
+        2 => dice.pick(&[GAP_LIMIT - 1, GAP_LIMIT]),
+        _ => dice.between(0, GAP_LIMIT),
+    }
 }
 
-fn tell_numbers(script: &mut Script, first: &[Number], second: &[Number]) {
-    let mut all = vec![first.len() as Number];
+fn tell(script: &mut Script, gap: Number, first: &[Point], second: &[Point]) {
+    tell_numbers(script, gap, &numbers(first), &numbers(second));
+}
+
+fn tell_numbers(script: &mut Script, gap: Number, first: &[Number], second: &[Number]) {
+    let mut all = vec![gap, first.len() as Number];
     all.extend(first);
     all.push(second.len() as Number);
     all.extend(second);
     script.tell("lists", &all);
 }
 
+type Lists = (Vec<Point>, Vec<Point>);
+
+/// Two lists, the second moved by the gap along some axes: what met before meets a face, an edge or a
+/// corner of the cube then; now and then a step more or less.
+fn set_apart(dice: &mut Dice, gap: Number, lists: impl Fn(&mut Dice) -> Lists) -> Lists {
+    let (first, second) = lists(dice);
+    if gap == 0 {
+        return (first, second);
+    }
+    let mut shift = [0; 3].map(|_: Number| dice.pick(&[0, 0, gap, -gap]));
+    if dice.once_in(3) {
+        shift[dice.below(3)] += dice.pick(&[-1, 1]);
+    }
+    (first, moved(second, shift))
+}
+
+/// The corners moved, and kept within the range.
+fn moved(list: Vec<Point>, shift: Point) -> Vec<Point> {
+    let kept = |b: Point| plus(b, shift).map(|k| k.clamp(-LIMIT, LIMIT));
+    list.into_iter().map(kept).collect()
+}
+
 /// Up to six corners each on a grid of at most 3 × 3 × 3.
-fn tiny(dice: &mut Dice) -> (Vec<Point>, Vec<Point>) {
+fn tiny(dice: &mut Dice) -> Lists {
     let grid = dice.between(1, 2);
     let list = |dice: &mut Dice| {
         let count = 1 + dice.below(6);
@@ -56,7 +89,7 @@ fn tiny(dice: &mut Dice) -> (Vec<Point>, Vec<Point>) {
 }
 
 /// Two boxes that on each axis are apart, share an end, overlap or are alike; perhaps both sheared.
-fn boxes(dice: &mut Dice) -> (Vec<Point>, Vec<Point>) {
+fn boxes(dice: &mut Dice) -> Lists {
     let size = dice.pick(&[2, 64, 4_096]);
     let mut low = [0; 3];
     let mut high = [0; 3];
@@ -115,7 +148,7 @@ fn spread(dice: &mut Dice, ways: &[Point]) -> Vec<Point> {
 
 /// Sheets, segments and points of one plane or one line, over each other, side by side or apart; or
 /// of planes that cross, or with a body among them; now and then one step out of the plane.
-fn flats(dice: &mut Dice) -> (Vec<Point>, Vec<Point>) {
+fn flats(dice: &mut Dice) -> Lists {
     let reach = dice.pick(&[1, 2, 5, 1_000, 20_000]);
     let mut ways = cloud(dice, reach, 3);
     if dice.once_in(3) {
@@ -140,15 +173,26 @@ fn flats(dice: &mut Dice) -> (Vec<Point>, Vec<Point>) {
     (first, second)
 }
 
-/// A direction in which the first list may be highest at a corner, an edge or a face.
-fn towards(dice: &mut Dice, first: &[Point], second: &[Point]) -> Point {
+/// A direction in which the first list, or the cube of a gap, may be highest at a corner, an edge or a face.
+fn towards(dice: &mut Dice, gap: Number, first: &[Point], second: &[Point]) -> Point {
     let edge = |dice: &mut Dice, list: &[Point]| minus(dice.pick(list), dice.pick(list));
-    match dice.below(4) {
+    match dice.below(if gap == 0 { 4 } else { 7 }) {
         0 => cross(edge(dice, first), edge(dice, first)),
         1 => cross(edge(dice, second), edge(dice, second)),
         2 => cross(edge(dice, first), edge(dice, second)),
-        _ => cloud(dice, 9, 1)[0],
+        3 => cloud(dice, 9, 1)[0],
+        4 => times(dice.pick(&[-1, 1]), dice.pick(&AXES)),
+        5 => cross(edge(dice, first), dice.pick(&AXES)),
+        _ => cross(edge(dice, second), dice.pick(&AXES)),
     }
+}
+
+/// A point of the cube that lies highest along d: a corner, or any of an edge or a face.
+fn of_cube(dice: &mut Dice, gap: Number, d: Point) -> Point {
+    d.map(|k| match k.signum() {
+        0 => dice.between(-gap, gap),
+        side => side * gap,
+    })
 }
 
 /// Half way between two corners that lie highest along d; even coordinates make it whole.
@@ -160,7 +204,7 @@ fn highest(list: &[Point], d: Point) -> Point {
 }
 
 /// Two lists, the second moved so that both are level in some direction, then perhaps nudged.
-fn contact(dice: &mut Dice, full: bool) -> (Vec<Point>, Vec<Point>) {
+fn contact(dice: &mut Dice, gap: Number, full: bool) -> Lists {
     let reach = dice.pick(&[2, 3, 5, 20, 1_000, 30_000]);
     let even = |list: Vec<Point>| -> Vec<Point> { list.into_iter().map(|a| times(2, a)).collect() };
     let list = |dice: &mut Dice| {
@@ -173,21 +217,18 @@ fn contact(dice: &mut Dice, full: bool) -> (Vec<Point>, Vec<Point>) {
     };
     let first = even(list(dice));
     let second = even(list(dice));
-    let d = towards(dice, &first, &second);
-    let from = highest(&first, d);
+    let d = towards(dice, gap, &first, &second);
+    let from = plus(highest(&first, d), of_cube(dice, gap, d));
     let to = highest(&second, times(-1, d));
     let mut shift = minus(from, to);
     if dice.once_in(2) {
         shift[dice.below(3)] += dice.pick(&[-1, 1]);
     }
-    let moved = second
-        .into_iter()
-        .map(|b| plus(b, shift).map(|k| k.clamp(-LIMIT, LIMIT)));
-    (first, moved.collect())
+    (first, moved(second, shift))
 }
 
 /// Points at the very ends of the range.
-fn extreme(dice: &mut Dice) -> (Vec<Point>, Vec<Point>) {
+fn extreme(dice: &mut Dice) -> Lists {
     let ends = [-LIMIT, 1 - LIMIT, LIMIT - 1, LIMIT, 0, 1, 65_536, -65_536];
     let list = |dice: &mut Dice| {
         let count = dice.pick(&[1, 2, 3, 4, 4, 8, 12, 32, CORNERS]);
@@ -207,7 +248,7 @@ fn extreme(dice: &mut Dice) -> (Vec<Point>, Vec<Point>) {
 }
 
 /// Two edges that cross at a point, each with a body behind it, perhaps one step apart.
-fn crossed(dice: &mut Dice) -> (Vec<Point>, Vec<Point>) {
+fn crossed(dice: &mut Dice) -> Lists {
     let reach = dice.pick(&[3, 10, 1_000]);
     let [u, v, w] = [0; 3].map(|_: Number| cloud(dice, reach, 1)[0]);
     let normal = cross(u, v);
@@ -230,7 +271,7 @@ fn crossed(dice: &mut Dice) -> (Vec<Point>, Vec<Point>) {
     (first, second)
 }
 
-/// Lists whose length or whose numbers are out of range, or both.
+/// Lists whose length or whose numbers are out of range, or both; and a gap that may be as well.
 pub fn refused(script: &mut Script, dice: &mut Dice) {
     let list = |dice: &mut Dice| -> Vec<Number> {
         let length = match dice.below(3) {
@@ -253,5 +294,16 @@ pub fn refused(script: &mut Script, dice: &mut Dice) {
         numbers
     };
     let (first, second) = (list(dice), list(dice));
-    tell_numbers(script, &first, &second);
+    let gap = any_gap(dice);
+    tell_numbers(script, gap, &first, &second);
+}
+
+/// A gap in range or out of it.
+pub fn any_gap(dice: &mut Dice) -> Number {
+    match dice.below(4) {
+        0 => dice.pick(&[-1, GAP_LIMIT + 1]),
+        1 => dice.edge_number(),
+        2 => 0,
+        _ => gap(dice),
+    }
 }

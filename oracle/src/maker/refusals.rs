@@ -1,4 +1,4 @@
-//! Every refusal 1 to 20, alone and together with its neighbours: each word of a command is drawn
+//! Every refusal 1 to 20 and 24, alone and together with its neighbours: each word of a command is drawn
 //! good or bad by itself, so that the lowest number has to win over all the others.
 
 use super::dice::Dice;
@@ -27,6 +27,12 @@ pub fn stretch(script: &mut Script, dice: &mut Dice) {
 /// A desk with a few shapes and pieces, so that good numbers exist for every word.
 pub fn begin(script: &mut Script, dice: &mut Dice) {
     script.start_afresh();
+    if dice.once_in(2) {
+        script.tell("gap", &[lists::any_gap(dice)]);
+    }
+    if dice.once_in(3) {
+        script.tell("gap", &[dice.between(0, 3)]);
+    }
     script.say("load 0 0 0 0");
     script.say("load 31 0 0 0 2 0 0 0 2 0 0 0 2");
     script.say("load 7 0 0 0 0 0 2 0 2 0 0 2 2 2 0 0 2 0 2 2 2 0 2 2 2");
@@ -53,7 +59,7 @@ fn command(script: &mut Script, dice: &mut Dice) {
 
 /// A command or question of the desk, good or bad.
 pub fn desk_command(script: &mut Script, dice: &mut Dice) {
-    match dice.below(15) {
+    match dice.below(16) {
         0..=3 => load(script, dice),
         4..=7 => place(script, dice),
         8..=10 => shift(script, dice),
@@ -62,6 +68,7 @@ pub fn desk_command(script: &mut Script, dice: &mut Dice) {
             script.tell("remove", &[place]);
         }
         12 | 13 => pair(script, dice),
+        14 => script.tell("gap", &[lists::any_gap(dice)]),
         _ => contacts(script, dice),
     }
 }

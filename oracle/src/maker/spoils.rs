@@ -6,7 +6,8 @@ use super::dice::Dice;
 use super::refusals::{begin, desk_command};
 use super::script::Script;
 use crate::desk::{count_cell, held_cell, number_cell, offset_cell, turn_cell, Desk, Part};
-use crate::desk::{AXIS_MARKS, CORNERS, MARKS, MARK_CELLS, NO_ROW, PLACES, SHAPES};
+use crate::desk::{AXIS_MARKS, CORNERS, GAP_CELL, GAP_LIMIT, MARKS, MARK_CELLS};
+use crate::desk::{NO_ROW, PLACES, SHAPES};
 use crate::point::Number;
 
 /// What brings a spoiled desk back.
@@ -49,7 +50,7 @@ impl Undo {
 
     /// Something that is not in order, whatever the desk holds.
     pub fn disorder(script: &mut Script, dice: &mut Dice) -> Undo {
-        match dice.below(5) {
+        match dice.below(6) {
             0 => Undo::lend(script, dice),
             1 => {
                 let cell = dice.below(4);
@@ -58,6 +59,7 @@ impl Undo {
             }
             2 => Undo::spoil(script, Part::Marks, AXIS_MARKS - 1, 0),
             3 => Undo::spoil(script, Part::Rows, (PLACES + 1) * dice.below(PLACES), 2),
+            4 => Undo::spoil(script, Part::Book, GAP_CELL, GAP_LIMIT + 1),
             _ => {
                 let cell = count_cell(dice.below(SHAPES));
                 Undo::spoil(script, Part::Shapes, cell, CORNERS as Number + 1)
@@ -100,8 +102,8 @@ fn one_cell(script: &mut Script, dice: &mut Dice) {
         5..=8 => held_or_turn(script, dice),
         9..=11 => offset(script, dice),
         12..=15 => rows(script, dice),
-        16 | 17 => book(script, dice),
-        18..=21 => marks(script, dice),
+        16..=18 => book(script, dice),
+        19..=21 => marks(script, dice),
         _ => Undo::lend(script, dice),
     };
     tried(script, dice);
@@ -228,7 +230,13 @@ fn rows(script: &mut Script, dice: &mut Dice) -> Undo {
     Undo::spoil(script, Part::Rows, cell, value)
 }
 
+/// A cell of the book. A gap in range leaves the desk in order, its rows as they were.
 fn book(script: &mut Script, dice: &mut Dice) -> Undo {
+    if dice.once_in(3) {
+        let old = script.desk().gap();
+        let value = dice.pick(&[0, 1, 2, old + 1, 64, GAP_LIMIT, GAP_LIMIT + 1, 1 << 16]);
+        return Undo::spoil(script, Part::Book, GAP_CELL, value);
+    }
     let cell = dice.below(16);
     let old = script.desk().cell(Part::Book, cell);
     let value = dice.pick(&[0, old + 1, (old - 1).max(0), Number::from(i32::MAX)]);

@@ -103,7 +103,7 @@ fn menu_text(dice: &mut Dice) -> String {
     bytes.iter().map(pair).collect()
 }
 
-const BAD_LINES: [&str; 44] = [
+const BAD_LINES: [&str; 48] = [
     "?",
     "frsh",
     "FRESH",
@@ -135,12 +135,16 @@ const BAD_LINES: [&str; 44] = [
     "remove -",
     "pair 0",
     "pair 0 1 2",
+    "gap",
+    "gap 0 0",
+    "gap 2147483648",
     "lists",
     "lists 0",
-    "lists 3 0 0 0 3 0 0",
-    "lists 3 0 0 0 3 0 0 0 0",
-    "lists -3 0 0 0 3 0 0 0",
-    "lists 2147483647 0",
+    "lists 0 0",
+    "lists 0 3 0 0 0 3 0 0",
+    "lists 0 3 0 0 0 3 0 0 0 0",
+    "lists 0 -3 0 0 0 3 0 0 0",
+    "lists 0 2147483647 0",
     "scan 00000000 00000000",
     "scan 0 0 0",
     "scan 0000000g 00000000 00000000",
@@ -151,7 +155,7 @@ const BAD_LINES: [&str; 44] = [
 ];
 
 /// Lines that look odd and are commands all the same.
-const ODD_LINES: [&str; 12] = [
+const ODD_LINES: [&str; 14] = [
     "length",
     "length ",
     "length  ",
@@ -160,8 +164,10 @@ const ODD_LINES: [&str; 12] = [
     "pair -0 00",
     "show -0",
     "show 0000131072",
-    "lists 0 0",
-    "lists 0 3 0 0 0",
+    "gap -0",
+    "gap 0000004097",
+    "lists 0 0 0",
+    "lists -2147483648 0 3 0 0 0",
     "line 0 - -",
     "scan 3FC00000 BFC00000 3fC0fFff",
 ];
@@ -197,7 +203,8 @@ fn cut_up(script: &mut Script, dice: &mut Dice) {
         "move 2 1 0 0 1",
         "pair 2 0",
         "contacts",
-        "lists 3 0 0 0 3 1 1 1",
+        "lists 1 3 0 0 0 3 1 1 1",
+        "gap 64",
         "line 1 610a62 630a64",
         "blank box 3f800000 3f800000 3f800000",
         "spoil book 9 0",

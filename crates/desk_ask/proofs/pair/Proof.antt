@@ -1,4 +1,5 @@
--- `desk_ask::pair`: the order of the desk, the two places, and then the verdict of the two pieces.
+-- `desk_ask::pair`: the order of the desk, the two places, and then the verdict of the two pieces by the desk's gap.
+-- Assumes nothing.
 use mathlib.Core.Path.{refl}
 use mathlib.Core.Logic.{inl}
 use native.Mathlib.Omega.{arith}
@@ -44,22 +45,37 @@ index-of-requires c κs = search needs
 index-of-requires-2 : tie.Need-index-of-requires-2
 index-of-requires-2 c κs = search needs
 
+gap-of-requires : tie.Need-gap-of-requires
+gap-of-requires c κs = search needs
+
 verdict-of-requires : tie.Need-verdict-of-requires
 verdict-of-requires c κs =
-    let s = c .before .before .before .before .before .before .before in
+    let j = c .before in
+    let i = j .before in
+    let t = i .before in
+    let k = t .before in
+    let u = k .before in
+    let s = u .before .before .before in
     let a = s .args in
-    may-pair (deskOf (a .shapes .now) (a .places .now) (a .rows .now) (a .book .now) (a .marks .now)) (a .first) (a .second) (toZ-ofZ (s .fits .first)) (toZ-ofZ (s .fits .second))
-    (unless-left (c .before .before .before .before .before .desk-in-order .ensures) (c .before .before .before .before .if1 .left)) (c .before .before .before .pair-refusal .result)
-    (c .before .before .before .pair-refusal .ensures) (c .before .before .if2 .left) (c .before .index-of .ensures) (c .index-of2 .ensures)
+    let o = unless-left (u .before .desk-in-order .ensures) (u .if1 .left) in (
+      may-pair (deskOf (a .shapes .now) (a .places .now) (a .rows .now) (a .book .now) (a .marks .now)) (a .first) (a .second) (toZ-ofZ (s .fits .first)) (toZ-ofZ (s .fits .second)) o
+          (k .pair-refusal .result) (k .pair-refusal .ensures) (t .if2 .left) (i .index-of .ensures) (j .index-of2 .ensures),
+      omega (arith, c .gap-of .ensures, o .book .gap),
+    )
 
 returns-3 : tie.Need-returns-3
 returns-3 c =
-    let s = c .before .before .before .before .before .before .before .before in
+    let g = c .before in
+    let j = g .before in
+    let i = j .before in
+    let t = i .before in
+    let k = t .before in
+    let u = k .before in
+    let s = u .before .before .before in
     let a = s .args in
     paired (deskOf (a .shapes .now) (a .places .now) (a .rows .now) (a .book .now) (a .marks .now)) (a .first) (a .second) (toZ-ofZ (s .fits .first)) (toZ-ofZ (s .fits .second))
-    (unless-left (c .before .before .before .before .before .before .desk-in-order .ensures) (c .before .before .before .before .before .if1 .left))
-    (c .before .before .before .before .pair-refusal .result) (c .before .before .before .before .pair-refusal .ensures) (c .before .before .before .if2 .left) (c .before .before .index-of .ensures)
-    (c .before .index-of2 .ensures) (c .verdict-of .ensures)
+    (unless-left (u .before .desk-in-order .ensures) (u .if1 .left)) (k .pair-refusal .result) (k .pair-refusal .ensures) (t .if2 .left) (i .index-of .ensures) (j .index-of2 .ensures)
+    (g .gap-of .ensures) (c .verdict-of .ensures)
 
 pub pair-spec : {M : Type 1} → statement M
 pair-spec =
@@ -73,5 +89,6 @@ pair-spec =
     returns-2
     index-of-requires
     index-of-requires-2
+    gap-of-requires
     verdict-of-requires
     returns-3)

@@ -10,7 +10,7 @@ use Rattle.ints.specs.Bounds.{element}
 use Rattle.desk.specs.declared.Command.{Command}
 use Rattle.desk.proofs.Command.{the-type}
 use Rattle.desk.proofs.Command.Laws.{the-laws}
-use Rattle.desk_tell.specs.Telling.{does-start, does-load, does-place, does-move, does-remove}
+use Rattle.desk_tell.specs.Telling.{does-start, does-load, does-place, does-move, does-remove, does-gap}
 use borrow.Author.Needs.{needs}
 use Rattle.desk_tell.proofs.tell.Statement.{statement}
 use Rattle.desk_tell.proofs.tell.Tie as tie
@@ -48,6 +48,12 @@ enum-known-command-4 c = search needs
 
 remove-requires : tie.Need-remove-requires
 remove-requires c κs = search needs
+
+enum-known-command-5 : tie.Need-enum-known-command-5
+enum-known-command-5 c = search needs
+
+set-gap-requires : tie.Need-set-gap-requires
+set-gap-requires c κs = search needs
 
 same-length : tie.Need-same-length
 same-length c = search needs
@@ -97,6 +103,16 @@ returns-5 c =
     let g = subst Good e (s .good .0) in
     does-remove (s .args .command) (s .args .numbers .now) e (element w32 _ (g .1 .1 .1 .1 .0 .1)) (c .before .before .remove .ensures)
 
+same-length-6 : tie.Need-same-length-6
+same-length-6 c = search needs
+
+returns-6 : tie.Need-returns-6
+returns-6 c =
+    let s = c .before .before .before .before .before .before .before .before .before .before in
+    let e = c .before .before .before .before .before .before .before .command5 .given .1 in
+    let g = subst Good e (s .good .0) in
+    does-gap (s .args .command) (s .args .numbers .now) e (element w32 _ (g .1 .1 .1 .1 .0 .1)) (c .set-gap .ensures)
+
 pub tell-spec : {M : Type 1} → statement M
 tell-spec =
     tie.close
@@ -111,6 +127,8 @@ tell-spec =
     move-piece-requires
     enum-known-command-4
     remove-requires
+    enum-known-command-5
+    set-gap-requires
     same-length
     returns
     same-length-2
@@ -120,4 +138,6 @@ tell-spec =
     same-length-4
     returns-4
     same-length-5
-    returns-5)
+    returns-5
+    same-length-6
+    returns-6)

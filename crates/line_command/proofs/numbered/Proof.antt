@@ -44,6 +44,9 @@ move-of-requires c κs = search needs
 remove-of-requires : tie.Need-remove-of-requires
 remove-of-requires c κs = search needs
 
+setting-of-requires : tie.Need-setting-of-requires
+setting-of-requires c κs = search needs
+
 pair-of-requires : tie.Need-pair-of-requires
 pair-of-requires c κs = search needs
 
@@ -78,30 +81,33 @@ returns-4 : tie.Need-returns-4
 returns-4 c = found (c .before .before) 3 (c .before .match .keys4) (c .remove-of .ensures)
 
 returns-5 : tie.Need-returns-5
-returns-5 c = found (c .before .before) 4 (c .before .match .keys5) (c .pair-of .ensures)
+returns-5 c = found (c .before .before) 4 (c .before .match .keys5) (c .setting-of .ensures)
 
 returns-6 : tie.Need-returns-6
-returns-6 c = found (c .before .before) 5 (c .before .match .keys6) (c .alone .ensures)
+returns-6 c = found (c .before .before) 5 (c .before .match .keys6) (c .pair-of .ensures)
 
 returns-7 : tie.Need-returns-7
-returns-7 c = found (c .before .before) 6 (c .before .match .keys7) (c .alone2 .ensures)
+returns-7 c = found (c .before .before) 6 (c .before .match .keys7) (c .alone .ensures)
 
 returns-8 : tie.Need-returns-8
-returns-8 c = found (c .before .before) 7 (c .before .match .keys8) (c .alone3 .ensures)
+returns-8 c = found (c .before .before) 7 (c .before .match .keys8) (c .alone2 .ensures)
 
 returns-9 : tie.Need-returns-9
-returns-9 c = found (c .before .before) 8 (c .before .match .keys9) (c .alone4 .ensures)
+returns-9 c = found (c .before .before) 8 (c .before .match .keys9) (c .alone3 .ensures)
 
 returns-10 : tie.Need-returns-10
-returns-10 c = found (c .before .before) 9 (c .before .match .keys10) (c .alone5 .ensures)
+returns-10 c = found (c .before .before) 9 (c .before .match .keys10) (c .alone4 .ensures)
 
 returns-11 : tie.Need-returns-11
-returns-11 c = found (c .before .before) 10 (c .before .match .keys11) (c .alone6 .ensures)
+returns-11 c = found (c .before .before) 10 (c .before .match .keys11) (c .alone5 .ensures)
 
 returns-12 : tie.Need-returns-12
-returns-12 c =
+returns-12 c = found (c .before .before) 11 (c .before .match .keys12) (c .alone6 .ensures)
+
+returns-13 : tie.Need-returns-13
+returns-13 c =
     let k = c .before .name-of .result in
-    found (c .before) k refl (sym (value-past (deskWords (c .before .before .before .before .args .numbers .now)) unknown k (none-below k 11 (c .match .rest))))
+    found (c .before) k refl (sym (value-past (deskWords (c .before .before .before .before .args .numbers .now)) unknown k (none-below k 12 (c .match .rest))))
 
 pub numbered-spec : {M : Type 1} → statement M
 numbered-spec =
@@ -113,6 +119,7 @@ numbered-spec =
     place-of-requires
     move-of-requires
     remove-of-requires
+    setting-of-requires
     pair-of-requires
     alone-requires
     alone-requires-2
@@ -131,4 +138,5 @@ numbered-spec =
     returns-9
     returns-10
     returns-11
-    returns-12)
+    returns-12
+    returns-13)

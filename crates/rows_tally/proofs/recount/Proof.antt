@@ -4,7 +4,7 @@ use Prim.Native.Nat.{_≤_, _-_}
 use native.Mathlib.Omega.{arith}
 use borrow.Author.Needs.{needs}
 use Rattle.limits.specs.Limits
-use Rattle.rows_tally.specs.Counting.{BookTo, book-none, book-more}
+use Rattle.rows_tally.specs.Counting.{BookTo, book-none, book-more, counted-order}
 use Rattle.rows_tally.proofs.recount.Statement.{statement}
 use Rattle.rows_tally.proofs.recount.Tie as tie
 
@@ -42,8 +42,7 @@ loop-again c =
 
 returns : tie.Need-returns Inv-loop μ-loop
 returns c =
-    let b = c .before .loop .inv .1 in
-    record { size = b .size; counts = λ v h. b .counts v (omega arith); rest = λ k h. b .rest k (omega arith) }
+    counted-order (omega arith) (c .before .loop .inv .1)
 
 pub recount-spec : {M : Type 1} → statement M
 recount-spec =

@@ -16,17 +16,17 @@ no-direction-requires : tie.Need-no-direction-requires
 no-direction-requires c κs = search needs
 
 start-of-requires : tie.Need-start-of-requires
-start-of-requires c κs = frame-corners (c .before .before .before .before .pre .0) (c .before .before .before .before .pre .1) (c .before .before .before .frame-of .ensures) refl
+start-of-requires c κs = frame-corners (c .before .before .before .before .pre .1 .0) (c .before .before .before .before .pre .1 .1) (c .before .before .before .frame-of .ensures) refl
 
 walk-requires : tie.Need-walk-requires
 walk-requires c κs =
-    let p = c .before .before .before .before .before .pre in
+    let p = c .before .before .before .before .before .pre .1 in
     let f = c .before .before .before .before .frame-of .ensures in
     (ground (p .0) (p .1) f, begun-strict (p .0) (p .1) f (c .before .no-direction .ensures) (c .before .before .before .frame-places .ensures) (c .start-of .ensures))
 
 meeting-verdict-requires : tie.Need-meeting-verdict-requires
 meeting-verdict-requires c κs =
-    let p = c .before .before .before .before .before .before .before .pre in
+    let p = c .before .before .before .before .before .before .before .pre .1 in
     let f = c .before .before .before .before .before .before .frame-of .ensures in (
       p,
       record {
@@ -45,7 +45,7 @@ no-pairs-requires c κs = search needs
 
 returns-2 : tie.Need-returns-2
 returns-2 c =
-    let p = c .before .before .before .before .before .before .before .before .before .pre in
+    let p = c .before .before .before .before .before .before .before .before .before .pre .1 in
     let f = c .before .before .before .before .before .before .before .before .frame-of .ensures in
     let w = strict (p .0) (p .1) f (c .before .before .before .before .before .no-direction .ensures) (c .before .before .before .before .before .before .before .frame-places .ensures)
     (c .before .before .before .walk .ensures) in

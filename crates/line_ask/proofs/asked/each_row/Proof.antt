@@ -8,10 +8,10 @@ use Rattle.line_ask.proofs.asked.each_row.Statement.{statement}
 use Rattle.line_ask.proofs.asked.each_row.Tie as tie
 
 abbrev Inv-loop : tie.InvT-loop
-Inv-loop rows in-words out₀ at next₀ k₀ out next k = (k ≤ Limits.rows) × (length out ≡ length out₀)
+Inv-loop rows in-words gap out₀ at next₀ k₀ out next k = (k ≤ Limits.rows) × (length out ≡ length out₀)
 
 abbrev μ-loop : tie.MeasureT-loop
-μ-loop rows in-words out₀ at next₀ k₀ out next k = Limits.rows - k
+μ-loop rows in-words gap out₀ at next₀ k₀ out next k = Limits.rows - k
 
 loop-holds : tie.Need-loop-holds Inv-loop μ-loop
 loop-holds c = omega arith
@@ -29,7 +29,7 @@ loop-less : tie.Need-loop-less Inv-loop μ-loop
 loop-less c = omega arith
 
 loop-again : tie.Need-loop-again Inv-loop μ-loop
-loop-again c = (omega arith, c .before .before .row .kept .1 .1 .1 .0 ∙ c .before .before .before .before .before .before .loop .inv .1)
+loop-again c = (omega arith, c .before .before .row .kept .1 .1 .1 .1 .0 ∙ c .before .before .before .before .before .before .loop .inv .1)
 
 same-length : tie.Need-same-length Inv-loop μ-loop
 same-length c = c .before .loop .inv .1

@@ -8,8 +8,8 @@ use Rattle.line.specs.declared.parts.Index.the-variants.{At}
 use Rattle.line_read.proofs.lists.both_lists.Statement.{statement}
 use Rattle.line_read.proofs.lists.both_lists.Tie as tie
 
-first-ends : (c : tie.After-first) → ListWithin 0 (length (c .before .before .before .before .args .numbers .now)) (At (c .first .given .0 .0))
-first-ends c = subst (ListWithin 0 (length (c .before .before .before .before .args .numbers .now))) (c .first .given .1) (c .before .before .list-end .ensures)
+first-ends : (c : tie.After-first) → ListWithin 1 (length (c .before .before .before .before .args .numbers .now)) (At (c .first .given .0 .0))
+first-ends c = subst (ListWithin 1 (length (c .before .before .before .before .args .numbers .now))) (c .first .given .1) (c .before .before .list-end .ensures)
 
 second-ends : (c : tie.After-second)
     → let f = c .before .before .before .before in ListWithin (f .first .given .0 .0) (length (f .before .before .before .before .args .numbers .now)) (At (c .second .given .0 .0))
@@ -62,27 +62,62 @@ same-length-3 c = search needs
 returns-3 : tie.Need-returns-3
 returns-3 c = search needs
 
-sub-pair-of-lists : tie.Need-sub-pair-of-lists
-sub-pair-of-lists c = let f = first-ends (c .before .before .before .before .before .before) in let s = second-ends (c .before .before) in omega (arith, f .0, f .1, s .0, s .1)
-
-part-pair-of-lists-start : tie.Need-part-pair-of-lists-start
-part-pair-of-lists-start c = let f = first-ends (c .before .before .before .before .before .before) in let s = second-ends (c .before .before) in omega (arith, f .0, f .1, s .0, s .1)
-
-part-pair-of-lists-end : tie.Need-part-pair-of-lists-end
-part-pair-of-lists-end c = let f = first-ends (c .before .before .before .before .before .before) in let s = second-ends (c .before .before) in omega (arith, f .0, f .1, s .0, s .1)
+shared-slice-copy-out-pair-of-lists : tie.Need-shared-slice-copy-out-pair-of-lists
+shared-slice-copy-out-pair-of-lists c = let f = first-ends (c .before .before .before .before .before .before) in omega (arith, f .0, f .1)
 
 add-pair-of-lists : tie.Need-add-pair-of-lists
-add-pair-of-lists c = let f = first-ends (c .before .before .before .before .before .before .before) in let s = second-ends (c .before .before .before) in omega (arith, f .0, f .1, s .0, s .1)
+add-pair-of-lists c =
+    let f = first-ends (c .before .before .before .before .before .before .before) in
+    let s = second-ends (c .before .before .before) in
+    omega (arith, f .0, f .1, s .0, s .1)
 
 mul-pair-of-lists : tie.Need-mul-pair-of-lists
-mul-pair-of-lists c = let f = first-ends (c .before .before .before .before .before .before .before) in let s = second-ends (c .before .before .before) in omega (arith, f .0, f .1, s .0, s .1)
+mul-pair-of-lists c =
+    let f = first-ends (c .before .before .before .before .before .before .before) in
+    let s = second-ends (c .before .before .before) in
+    omega (arith, f .0, f .1, s .0, s .1)
+
+sub-pair-of-lists : tie.Need-sub-pair-of-lists
+sub-pair-of-lists c =
+    let f = first-ends (c .before .before .before .before .before .before .before) in
+    let s = second-ends (c .before .before .before) in
+    omega (arith, f .0, f .1, s .0, s .1)
+
+part-pair-of-lists-start : tie.Need-part-pair-of-lists-start
+part-pair-of-lists-start c =
+    let f = first-ends (c .before .before .before .before .before .before .before) in
+    let s = second-ends (c .before .before .before) in
+    omega (arith, f .0, f .1, s .0, s .1)
+
+part-pair-of-lists-end : tie.Need-part-pair-of-lists-end
+part-pair-of-lists-end c =
+    let f = first-ends (c .before .before .before .before .before .before .before) in
+    let s = second-ends (c .before .before .before) in
+    omega (arith, f .0, f .1, s .0, s .1)
+
+add-pair-of-lists-2 : tie.Need-add-pair-of-lists-2
+add-pair-of-lists-2 c =
+    let f = first-ends (c .before .before .before .before .before .before .before .before) in
+    let s = second-ends (c .before .before .before .before) in
+    omega (arith, f .0, f .1, s .0, s .1)
+
+mul-pair-of-lists-2 : tie.Need-mul-pair-of-lists-2
+mul-pair-of-lists-2 c =
+    let f = first-ends (c .before .before .before .before .before .before .before .before) in
+    let s = second-ends (c .before .before .before .before) in
+    omega (arith, f .0, f .1, s .0, s .1)
 
 sub-pair-of-lists-2 : tie.Need-sub-pair-of-lists-2
-sub-pair-of-lists-2 c = let f = first-ends (c .before .before .before .before .before .before .before) in let s = second-ends (c .before .before .before) in omega (arith, f .0, f .1, s .0, s .1)
+sub-pair-of-lists-2 c =
+    let f = first-ends (c .before .before .before .before .before .before .before .before) in
+    let s = second-ends (c .before .before .before .before) in
+    omega (arith, f .0, f .1, s .0, s .1)
 
 part-pair-of-lists-start-2 : tie.Need-part-pair-of-lists-start-2
 part-pair-of-lists-start-2 c =
-    let f = first-ends (c .before .before .before .before .before .before .before) in let s = second-ends (c .before .before .before) in omega (arith, f .0, f .1, s .0, s .1)
+    let f = first-ends (c .before .before .before .before .before .before .before .before) in
+    let s = second-ends (c .before .before .before .before) in
+    omega (arith, f .0, f .1, s .0, s .1)
 
 part-pair-of-lists-end-2 : tie.Need-part-pair-of-lists-end-2
 part-pair-of-lists-end-2 c = search needs
@@ -118,11 +153,14 @@ both-lists-spec =
     wrong-requires-3
     same-length-3
     returns-3
+    shared-slice-copy-out-pair-of-lists
+    add-pair-of-lists
+    mul-pair-of-lists
     sub-pair-of-lists
     part-pair-of-lists-start
     part-pair-of-lists-end
-    add-pair-of-lists
-    mul-pair-of-lists
+    add-pair-of-lists-2
+    mul-pair-of-lists-2
     sub-pair-of-lists-2
     part-pair-of-lists-start-2
     part-pair-of-lists-end-2

@@ -21,7 +21,7 @@ earlier-requires c κs = search needs
 returns : tie.Need-returns
 returns c =
     let s = c .before .before in
-    apart-first (s .pre .0) (s .pre .1) (sym (c .before .earlier .ensures) ∙ c .if1 .taken)
+    λ g e. apart-first (s .pre .1) (s .pre .2) e (sym (c .before .earlier .ensures) ∙ c .if1 .taken)
 
 mul-earlier-3 : tie.Need-mul-earlier-3
 mul-earlier-3 c = search needs
@@ -38,7 +38,7 @@ earlier-requires-2 c κs = search needs
 returns-2 : tie.Need-returns-2
 returns-2 c =
     let s = c .before .before .before in
-    apart-second (s .pre .0) (s .pre .1) (sym (c .before .before .earlier .ensures) ∙ c .before .if1 .left) (c .earlier2 .ensures)
+    λ g e. apart-second (s .pre .1) (s .pre .2) e (sym (c .before .before .earlier .ensures) ∙ c .before .if1 .left) (c .earlier2 .ensures)
 
 pub apart-on-spec : {M : Type 1} → statement M
 apart-on-spec =

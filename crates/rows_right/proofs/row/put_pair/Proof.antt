@@ -1,5 +1,6 @@
 -- `rows_right::row::put_pair`: the pair with the lower place first, or nothing.
 -- The tallies follow the row that is put; where none is put they stay.
+use mathlib.Core.Path.{refl}
 use mathlib.Core.Logic.{inl, inr}
 use native.Mathlib.Omega.{arith}
 use Rattle.pieces.specs.Pieces.{storeOf}
@@ -32,7 +33,7 @@ returns c =
     let t = r .before .before in
     let s = t .before .before in
     let a = s .args in (
-      one-below (storeOf (a .shapes .now) (a .places .now)) (r .before .if2 .taken) (another t .taken) (s .pre .0 .0 .taken) (r .row-of .ensures) (c .put-row .ensures .0),
+      one-below (a .gap) (storeOf (a .shapes .now) (a .places .now)) (r .before .if2 .taken) (another t .taken) (s .pre .0 .0 .taken) (r .row-of .ensures) (c .put-row .ensures .0),
       c .put-row .ensures .1,
     )
 
@@ -52,19 +53,19 @@ returns-2 c =
     let t = r .before .before .before in
     let s = t .before .before in
     let a = s .args in (
-      one-above (storeOf (a .shapes .now) (a .places .now)) (r .before .if3 .taken) (another t .taken) (s .pre .0 .0 .taken) (r .row-of2 .ensures) (c .put-row2 .ensures .0),
+      one-above (a .gap) (storeOf (a .shapes .now) (a .places .now)) (r .before .if3 .taken) (another t .taken) (s .pre .0 .0 .taken) (r .row-of2 .ensures) (c .put-row2 .ensures .0),
       c .put-row2 .ensures .1,
     )
 
 returns-3 : tie.Need-returns-3
 returns-3 c =
     let s = c .before .before .before .before in
-    (one-skipped (storeOf (s .args .shapes .now) (s .args .places .now)) (inr (omega arith)), s .pre .0 .1)
+    (one-skipped (s .args .gap) (storeOf (s .args .shapes .now) (s .args .places .now)) (inr (omega arith)), record { order = s .pre .0 .1; gap = refl })
 
 returns-4 : tie.Need-returns-4
 returns-4 c =
     let s = c .before .before in
-    (one-skipped (storeOf (s .args .shapes .now) (s .args .places .now)) (inl (c .before .is-taken .ensures .no (c .if1 .left))), s .pre .0 .1)
+    (one-skipped (s .args .gap) (storeOf (s .args .shapes .now) (s .args .places .now)) (inl (c .before .is-taken .ensures .no (c .if1 .left))), record { order = s .pre .0 .1; gap = refl })
 
 pub put-pair-spec : {M : Type 1} → statement M
 put-pair-spec =

@@ -89,12 +89,18 @@ returns-5 c =
 returns-6 : tie.Need-returns-6
 returns-6 c =
     let code = c .before .before .before .before .before .before .before .before .args .code .now in
+    let kind = same-bits {w = w32} {a = numberIn code 0} {b = pos 5} (record { sfits = c .before .before .before .before .before .before .before .kind .given }) (sfits-lit tt) (c .match .keys6) in
+    λ numbers. rw (element w32 (numberIn code 4) (c .before .before .before .x .given)) (of-kind code numbers (pos 5) kind)
+
+returns-7 : tie.Need-returns-7
+returns-7 c =
+    let code = c .before .before .before .before .before .before .before .before .args .code .now in
     let kind = numberIn code 0 in
     let none = c .match .rest in
     λ numbers.
     passed-over kind (numberIn code 1) (numberIn code 2) (numberIn code 3) (numberIn code 4) (numberIn code 5) (numberIn code 6) numbers
-    (other-bits w32 kind (pos 0) (none .0 .0 .0 .0 .1)) (other-bits w32 kind (pos 1) (none .0 .0 .0 .1)) (other-bits w32 kind (pos 2) (none .0 .0 .1)) (other-bits w32 kind (pos 3) (none .0 .1))
-    (other-bits w32 kind (pos 4) (none .1))
+    (other-bits w32 kind (pos 0) (none .0 .0 .0 .0 .0 .1)) (other-bits w32 kind (pos 1) (none .0 .0 .0 .0 .1)) (other-bits w32 kind (pos 2) (none .0 .0 .0 .1))
+    (other-bits w32 kind (pos 3) (none .0 .0 .1)) (other-bits w32 kind (pos 4) (none .0 .1)) (other-bits w32 kind (pos 5) (none .1))
 
 pub command-of-spec : {M : Type 1} → statement M
 command-of-spec =
@@ -112,4 +118,5 @@ command-of-spec =
     returns-3
     returns-4
     returns-5
-    returns-6)
+    returns-6
+    returns-7)

@@ -1,36 +1,35 @@
--- `verdict_frame::frame_of`: the first scan finds a difference that is not 0, or shows that all are.
-use Rattle.verdict_frame.specs.FrameLaws.{some-of, framed-at-a-point}
+-- `verdict_frame::frame_of`: with no gap by the scans, else by the gap's cube.
+use mathlib.Core.Path.{sym, ap, subst}
+use Rattle.space.specs.Ranges.{Upto}
+use Rattle.verdict_walk.specs.PointLaws.{some-corner}
+use Rattle.verdict_frame.specs.Frames.{Framed}
+use Rattle.verdict_frame.specs.FrameLaws.{difference-upto, framed-gap}
 use borrow.Author.Needs.{needs}
 use Rattle.verdict_frame.proofs.frame.frame_of.Statement.{statement}
 use Rattle.verdict_frame.proofs.frame.frame_of.Tie as tie
 
-unit-rows-requires : tie.Need-unit-rows-requires
-unit-rows-requires c κs = search needs
-
-seek-requires : tie.Need-seek-requires
-seek-requires c κs = search needs
-
-frame-off-the-point-requires : tie.Need-frame-off-the-point-requires
-frame-off-the-point-requires c κs = (c .before .before .before .before .pre, some-of (c .before .before .before .unit-rows .ensures .0) (c .before .before .seek .ensures) (c .before .if1 .taken))
+plain-frame-requires : tie.Need-plain-frame-requires
+plain-frame-requires c κs = search needs
 
 returns : tie.Need-returns
-returns c = c .frame-off-the-point .ensures
+returns c =
+    let s = c .before .before .args in
+    subst (λ k. Framed k (s .first .now) (s .second .now) (c .plain-frame .result)) (sym (c .before .if1 .taken)) (c .plain-frame .ensures)
 
-at-a-point-requires : tie.Need-at-a-point-requires
-at-a-point-requires c κs = search needs
+difference-requires : tie.Need-difference-requires
+difference-requires c κs = let p = c .before .pre .1 in (p, (some-corner (p .0), some-corner (p .1)))
+
+widened-requires : tie.Need-widened-requires
+widened-requires c κs =
+    let p = c .before .before .pre in
+    (p .0, subst (Upto 262144) (sym (ap (λ q. q .at) (c .difference .ensures))) (difference-upto (p .1 .0) (p .1 .1) (some-corner (p .1 .0)) (some-corner (p .1 .1))))
 
 returns-2 : tie.Need-returns-2
 returns-2 c =
-    framed-at-a-point (c .before .before .before .before .pre .0) (c .before .before .before .before .pre .1) (c .before .before .before .unit-rows .ensures .0) (c .before .before .seek .ensures)
-    (c .before .if1 .left) (c .at-a-point .ensures)
+    let p = c .before .before .before .pre in
+    framed-gap (p .1 .0) (p .1 .1) (c .before .before .if1 .left) (p .0) (c .before .difference .ensures) (c .widened .ensures)
 
 pub frame-of-spec : {M : Type 1} → statement M
 frame-of-spec =
     tie.close
-    (tie.spec
-    unit-rows-requires
-    seek-requires
-    frame-off-the-point-requires
-    returns
-    at-a-point-requires
-    returns-2)
+    (tie.spec plain-frame-requires returns difference-requires widened-requires returns-2)

@@ -48,7 +48,9 @@ push-requires-3 c κs =
     )
 
 det-requires-4 : tie.Need-det-requires-4
-det-requires-4 c κs = search needs
+det-requires-4 c κs =
+    let s = c .before .before .before .before .before .before .before .before .before .before .before .before .before .before .before .before .pre in
+    (s .portal .ina, s .portal .inb, s .last)
 
 push-requires-4 : tie.Need-push-requires-4
 push-requires-4 c κs =

@@ -31,12 +31,16 @@ boxed-requires c κs = search needs
 plus-requires : tie.Need-plus-requires
 plus-requires c κs = (upto-le tt (c .before .minus .ensures .1), upto-le tt (c .boxed .ensures .most))
 
+cube-of-requires : tie.Need-cube-of-requires
+cube-of-requires c κs = c .before .before .before .before .before .before .before .before .pre .0 .0
+
 returns : tie.Need-returns
 returns c =
-    supports (c .before .before .before .before .before .before .before .before .pre .0 .1) (c .before .before .before .before .before .before .farthest .ensures)
-    (c .before .before .before .before .before .before .before .opposite .ensures .0) (c .before .before .before .before .before .farthest2 .ensures) (c .before .boxed .ensures .of)
-    (c .plus .ensures .0 ∙ ap₂ plus (c .before .before .minus .ensures .0 ∙ ap₂ minus (c .before .before .before .before .corner .ensures .0) (c .before .before .before .corner2 .ensures .0))
-    (c .before .boxed .ensures .is))
+    supports (c .before .before .before .before .before .before .before .before .before .pre .0 .1) (c .before .before .before .before .before .before .before .farthest .ensures)
+    (c .before .before .before .before .before .before .before .before .opposite .ensures .0) (c .before .before .before .before .before .before .farthest2 .ensures) (c .cube-of .ensures)
+    (c .before .plus .ensures .0 ∙ ap₂ plus
+    (c .before .before .before .minus .ensures .0 ∙ ap₂ minus (c .before .before .before .before .before .corner .ensures .0) (c .before .before .before .before .corner2 .ensures .0))
+    (c .before .before .boxed .ensures .is))
 
 pub support-spec : {M : Type 1} → statement M
 support-spec =
@@ -50,4 +54,5 @@ support-spec =
     minus-requires
     boxed-requires
     plus-requires
+    cube-of-requires
     returns)
