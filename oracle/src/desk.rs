@@ -402,6 +402,17 @@ impl Desk {
         Ok(())
     }
 
+    /// The corners of a loaded shape.
+    pub fn shape(&self, shape: Number) -> Result<Vec<Point>, Number> {
+        self.ordered()?;
+        let known = index(shape, SHAPES);
+        lowest(&[
+            (SHAPE_NUMBER, known.is_none()),
+            (NOT_LOADED, known.is_some_and(|s| !self.loaded(s))),
+        ])?;
+        Ok(points(self.shape_numbers(known.unwrap_or_default())))
+    }
+
     fn placing_refusals(turn: Number, offset: Point) -> [(Number, bool); 2] {
         [
             (TURN_NUMBER, !(0..TURNS).contains(&turn)),

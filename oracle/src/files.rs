@@ -2,8 +2,8 @@
 //! And the commands that read them, in hex from the line and, by `load-stl`, from the folder they are written to.
 
 use crate::desk::CORNERS;
+use crate::folder::LONGEST_FILE;
 use crate::maker::scanner::{corner, counting, file, hex, row};
-use crate::program::LONGEST_FILE;
 use crate::stl::{FIRST, TRIANGLE};
 use std::fs;
 use std::io;

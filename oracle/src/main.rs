@@ -5,6 +5,7 @@ use oracle::bench;
 use oracle::files;
 use oracle::judge::{judge, next_line, Manner};
 use oracle::maker::{make, Kind};
+use oracle::off_texts;
 use oracle::program::{answer, Program};
 use oracle::words::passed_over;
 use std::fs::File;
@@ -19,6 +20,8 @@ oracle make SEED COUNT [KIND]                         write a seeded script of C
 oracle bench                                          write the fixed script of bench pieces
 oracle files                                          write the fixed script of scanned files
 oracle files FOLDER                                   write the files that it names to a folder
+oracle off                                            write the fixed script of OFF texts
+oracle off FOLDER                                     write the files that it names to a folder
 ";
 
 fn main() -> ExitCode {
@@ -49,6 +52,11 @@ fn run(words: &[&str]) -> io::Result<Option<usize>> {
         ["files"] => Some(written(&files::script(), &mut out)?),
         ["files", folder] => {
             files::write(Path::new(folder))?;
+            Some(0)
+        }
+        ["off"] => Some(written(&off_texts::script(), &mut out)?),
+        ["off", folder] => {
+            off_texts::write(Path::new(folder))?;
             Some(0)
         }
         ["make", seed, count] => made(seed, count, Kind::All.word(), &mut out)?,

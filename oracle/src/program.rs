@@ -4,17 +4,16 @@
 use crate::balance::balance;
 use crate::desk::{lists_refusal, Desk, Row};
 use crate::floats::{shown, three_steps};
+use crate::folder::Folder;
 use crate::lengths;
 use crate::menus;
+use crate::off;
 use crate::point::{points, Number, Point};
+use crate::refusals::{lowest, SHORT_ROOM};
 use crate::stl;
 use crate::verdict::{decide, Verdict};
 use crate::words::{read, Command, ROOM_CELLS};
-use std::ffi::OsStr;
 use std::fmt::Write;
-use std::fs::File;
-use std::io::Read;
-use std::os::unix::ffi::OsStrExt;
 
 /// Two lists of placed corners whose verdict is asked for, and the gap by which the first is widened.
 #[derive(Debug, PartialEq, Eq)]
@@ -35,10 +34,11 @@ pub enum Expected {
     Report(Vec<Row>),
 }
 
-/// The desk program as the judge keeps it: the desk, and the room that is lent.
+/// The desk program as the judge keeps it: the desk, the room that is lent, and the files.
 pub struct Program {
     pub desk: Desk,
     pub room: usize,
+    folder: Folder,
 }
 
 impl Default for Program {
@@ -46,30 +46,19 @@ impl Default for Program {
         Program {
             desk: Desk::default(),
             room: ROOM_CELLS,
+            folder: Folder::default(),
         }
     }
 }
 
 type Answer = Result<Expected, Number>;
 
-/// `load-stl` has room of its own: as much as any shape takes.
+/// `load-stl`, `load-off` and `save-off` have room of their own: as much as any shape takes.
 const OWN_ROOM: usize = usize::MAX;
-
-/// The longest file that `load-stl` takes: 1 MiB.
-pub const LONGEST_FILE: usize = 1 << 20;
 
 /// What is answered to a line that says no command, or names a file that cannot be had.
 fn no_command() -> Expected {
     Expected::Line(String::from("?"))
-}
-
-/// The bytes of a file, from the folder in which the judge runs; `None` where they cannot be read or are too many.
-fn file_at(path: &[u8]) -> Option<Vec<u8>> {
-    let mut bytes = Vec::new();
-    let file = File::open(OsStr::from_bytes(path)).ok()?;
-    let most = LONGEST_FILE as u64 + 1;
-    file.take(most).read_to_end(&mut bytes).ok()?;
-    (bytes.len() <= LONGEST_FILE).then_some(bytes)
 }
 
 /// `0` and the numbers, with one space between.
@@ -162,10 +151,30 @@ impl Program {
                 Some(numbers) => done(&numbers),
                 None => Ok(Expected::Line(String::from("0 none"))),
             },
-            Command::LoadStl { shape, path } => match file_at(&path) {
+            Command::LoadStl { shape, path } => match self.folder.read(&path) {
                 Some(file) => accepted(desk.load(shape, &stl::corners(&file, OWN_ROOM)?)),
                 None => Ok(no_command()),
             },
+            Command::Off(text) => {
+                let numbers = off::corners(&text, self.room)?;
+                counted(numbers.len(), &numbers)
+            }
+            Command::LoadOff { shape, path } => match self.folder.read(&path) {
+                Some(text) => accepted(desk.load(shape, &off::corners(&text, OWN_ROOM)?)),
+                None => Ok(no_command()),
+            },
+            Command::Write(shape) => {
+                let text = off::text(&desk.shape(shape)?);
+                lowest(&[(SHORT_ROOM, self.room < text.len())])?;
+                Ok(Expected::Line(format!("0 {}", hex(&text))))
+            }
+            Command::SaveOff { shape, path } => {
+                let text = off::text(&desk.shape(shape)?);
+                match self.folder.save(&path, text) {
+                    true => done(&[]),
+                    false => Ok(no_command()),
+                }
+            }
             Command::Spoil { part, cell, value } => {
                 desk.put(part, cell, value);
                 done(&[])

@@ -27,6 +27,10 @@ pub const FILE_LENGTH: Number = 21;
 pub const NO_TRIANGLES: Number = 22;
 pub const MANY_CORNERS: Number = 23;
 pub const GAP_REFUSED: Number = 24;
+/// Of OFF texts (request W7), whose numbers are no floats; 22 there is that a text has no corners.
+pub const NUMBER_RANGE: Number = FLOAT_RANGE;
+pub const COMMA: Number = 25;
+pub const BAD_TEXT: Number = 26;
 
 /// Refuses by the lowest of the numbers whose condition holds.
 pub fn lowest(conditions: &[(Number, bool)]) -> Result<(), Number> {

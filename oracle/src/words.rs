@@ -62,6 +62,16 @@ pub enum Command {
         shape: Number,
         path: Vec<u8>,
     },
+    Off(Vec<u8>),
+    Write(Number),
+    LoadOff {
+        shape: Number,
+        path: Vec<u8>,
+    },
+    SaveOff {
+        shape: Number,
+        path: Vec<u8>,
+    },
     Report,
     Spoil {
         part: Part,
@@ -89,7 +99,16 @@ pub fn read(line: &[u8]) -> Option<Command> {
         return Some(Command::Length(text.to_vec()));
     }
     if let Some(rest) = line.strip_prefix(b"load-stl ") {
-        return load_stl(rest);
+        let (shape, path) = shape_and_path(rest)?;
+        return Some(Command::LoadStl { shape, path });
+    }
+    if let Some(rest) = line.strip_prefix(b"load-off ") {
+        let (shape, path) = shape_and_path(rest)?;
+        return Some(Command::LoadOff { shape, path });
+    }
+    if let Some(rest) = line.strip_prefix(b"save-off ") {
+        let (shape, path) = shape_and_path(rest)?;
+        return Some(Command::SaveOff { shape, path });
     }
     let mut words = line.split(|&byte| byte == b' ');
     let name = words.next()?;
@@ -104,7 +123,8 @@ pub fn read(line: &[u8]) -> Option<Command> {
         b"scan" => Some(Command::Scan(patterns(&rest)?)),
         b"blank" => blank(&rest),
         b"line" => menu_line(&rest),
-        b"stl" => stl(&rest),
+        b"stl" => Some(Command::Stl(only_text(&rest)?)),
+        b"off" => Some(Command::Off(only_text(&rest)?)),
         b"triangle" => triangle(&rest),
         b"spoil" => spoil(&rest),
         b"lists" => lists(&numbers(&rest)?),
@@ -133,6 +153,7 @@ fn numbered(name: &[u8], numbers: &[Number]) -> Option<Command> {
         (b"remove", &[place]) => Command::Remove { place },
         (b"gap", &[gap]) => Command::Gap(gap),
         (b"pair", &[first, second]) => Command::Pair { first, second },
+        (b"write", &[shape]) => Command::Write(shape),
         (b"show", &[steps]) => Command::Show(steps),
         (b"lend", &[cells]) => Command::Lend(up_to(Part::Marks.cells(), cells)?),
         (b"room", &[cells]) => Command::Room(up_to(ROOM_CELLS, cells)?),
@@ -214,9 +235,9 @@ fn menu_line(words: &[&[u8]]) -> Option<Command> {
     })
 }
 
-fn stl(words: &[&[u8]]) -> Option<Command> {
+fn only_text(words: &[&[u8]]) -> Option<Vec<u8>> {
     match words {
-        [file] => Some(Command::Stl(text(file)?)),
+        [file] => text(file),
         _ => None,
     }
 }
@@ -232,12 +253,9 @@ fn triangle(words: &[&[u8]]) -> Option<Command> {
 }
 
 /// A number, one space, and a path of all bytes after it.
-fn load_stl(rest: &[u8]) -> Option<Command> {
+fn shape_and_path(rest: &[u8]) -> Option<(Number, Vec<u8>)> {
     let space = rest.iter().position(|&byte| byte == b' ')?;
-    Some(Command::LoadStl {
-        shape: number(&rest[..space])?,
-        path: rest[space + 1..].to_vec(),
-    })
+    Some((number(&rest[..space])?, rest[space + 1..].to_vec()))
 }
 
 fn spoil(words: &[&[u8]]) -> Option<Command> {

@@ -19,7 +19,7 @@ use Rattle.limits.specs.Numbered.{Numbered}
 use Rattle.desk_refusals.specs.Parts.{shapeRefusals, emptyRefusals, takenRefusals, placementRefusals}
 use Rattle.pieces.specs.Index.{Indexed}
 use Rattle.pieces.specs.IndexLaws.{indexed-is}
-use Rattle.desk_refusals.specs.Asked.{Asked, asked-refused, ShapeAsked, EmptyAsked, TakenAsked, PlacementAsked}
+use Rattle.desk_refusals.specs.Asked.{Asked, asked-refused, shape-whole, ShapeAsked, EmptyAsked, TakenAsked, PlacementAsked}
 use Rattle.desk.specs.Commands.{placeRefusals, Places, Removed}
 use Rattle.desk.specs.CommandLaws.{refuses, accepts}
 use Rattle.desk.specs.declared.Outcome.the-variants as outcome
@@ -71,11 +71,6 @@ module _ (shapes places : List ℤ) (place : ℤ) (q : Placement) {b : ℤ} (eb 
       }
 
 -- ---- a placing
-shape-whole : (d : Store) (shape : ℤ) (rest : List Refusal) {n : ℕ} → Lowest (shapeRefusals (storeOf (d .shapes) []) shape ++ rest) n → Lowest (shapeRefusals d shape ++ rest) n
-shape-whole d shape rest (inl h) = inl h
-shape-whole d shape rest (inr (f, inl (g, e))) = inr (f, inl (λ l. g (loaded-alone refl refl l), e))
-shape-whole d shape rest (inr (f, inr (g, h))) = inr (f, inr (λ k. g (λ l. k (loaded-alone refl refl l)), h))
-
 module _ (d : Desk) (place : ℤ) (q : Placement) {a : ℤ} (ea : a ≡ place) (o : InOrder d) (n : ℕ) (k : PlaceAsked (d .store .shapes) (d .store .places) a q n) where
   place-asked : PlaceAsked (d .store .shapes) (d .store .places) place q n
   place-asked = subst (λ (i : ℤ). PlaceAsked (d .store .shapes) (d .store .places) i q n) ea k

@@ -1,7 +1,8 @@
 -- Refusals asked for part by part: what one part's number says, and how the parts make the whole list of a command.
 -- A part that finds nothing hands on what it has found to hold.
-use mathlib.Core.Path.{_≡_, sym}
-use mathlib.Core.List.{List, []}
+use mathlib.Core.Path.{_≡_, refl, sym}
+use mathlib.Core.List.{List, [], _++_}
+use mathlib.Core.Logic.{inl, inr}
 use mathlib.Core.Bool.{Bool}
 use Prim.Native.Nat.{ℕ, _<_}
 use native.Mathlib.Omega.{arith}
@@ -10,7 +11,8 @@ use Rattle.limits.specs.Limits
 use Rattle.limits.specs.Decides.{Decides}
 use Rattle.limits.specs.Lowest.{Refusal, Lowest}
 use Rattle.limits.specs.Numbered.{Numbered}
-use Rattle.pieces.specs.Pieces.{Loaded, storeOf, Taken}
+use Rattle.pieces.specs.Pieces.{Store, Loaded, storeOf, Taken}
+use Rattle.pieces_test.specs.OrderTest.{loaded-alone}
 use Rattle.desk_state.specs.Desk.{OffsetFits}
 use Rattle.desk_refusals.specs.Parts.{shapeRefusals, emptyRefusals, takenRefusals, placementRefusals, twoRefusals}
 
@@ -55,3 +57,9 @@ offset-handed {b} e f g d = rw (sym e, sym f, sym g) d
 
 pub placement-handed : {c u v w turn x y z : ℤ} {n : ℕ} → c ≡ turn → u ≡ x → v ≡ y → w ≡ z → PlacementAsked c u v w n → PlacementAsked turn x y z n
 placement-handed d e f g h = rw (sym d, sym e, sym f, sym g) h
+
+-- a shape is asked for among the shapes alone, and so of any desk that has them; `rest` is what a command asks besides
+pub shape-whole : (d : Store) (shape : ℤ) (rest : List Refusal) {n : ℕ} → Lowest (shapeRefusals (storeOf (d .shapes) []) shape ++ rest) n → Lowest (shapeRefusals d shape ++ rest) n
+shape-whole d shape rest (inl h) = inl h
+shape-whole d shape rest (inr (f, inl (g, e))) = inr (f, inl (λ l. g (loaded-alone refl refl l), e))
+shape-whole d shape rest (inr (f, inr (g, h))) = inr (f, inr (λ k. g (λ l. k (loaded-alone refl refl l)), h))

@@ -1,4 +1,4 @@
--- The numbers of document 01 that contracts cite, once. src/lib.rt has the same ones for code, and its three functions tie them together.
+-- The numbers of document 01 that contracts cite, once. src/lib.rt has the same ones for code, and its `tied_` functions tie them together.
 -- A request that changes a number changes it here and there, and nowhere else.
 --
 --   what                     document 01             since W4
@@ -199,3 +199,14 @@ manyCorners = 23
 -- W6: "Refusal 24: gap out of range, or set while a place is taken."
 abbrev pub gapRefused : ℕ
 gapRefused = 24
+
+-- W7 (document 02): "Numbers are an optional minus, one or more digits, and optionally a point and 1 to 6 digits; a comma is refused by name (25), other bad
+-- text is 26"; its order is its own too: "25 is tested first over all text outside comments, then 26, 17, 18, 22, 23, and 13 for short room"
+abbrev pub commaRefused : ℕ
+commaRefused = 25
+
+abbrev pub badText : ℕ
+badText = 26
+
+abbrev pub offDigits : ℕ
+offDigits = 6

@@ -46,6 +46,7 @@ theRanges = record {
   «whole_digits» = Limits.wholeDigits;
   «part_digits» = Limits.partDigits;
   «most_hundredths» = Limits.mostHundredths;
+  «off_digits» = Limits.offDigits;
 }
 
 abbrev pub theRefusals : Refusals
@@ -54,5 +55,5 @@ theRefusals = record {
       Limits.done ∷ Limits.disorder ∷ Limits.shapeNumber ∷ Limits.listLength ∷ Limits.cornerRange ∷ Limits.shapeLoaded ∷ Limits.shapeMissing
       ∷ Limits.placeNumber ∷ Limits.placeTaken ∷ Limits.placeEmpty ∷ Limits.turnNumber ∷ Limits.offsetRange ∷ Limits.samePlace ∷ Limits.shortRoom ∷ [];
   text = Limits.lengthForm ∷ Limits.lengthRange ∷ Limits.notFinite ∷ Limits.notWhole ∷ Limits.floatRange ∷ Limits.sizeZero ∷ Limits.placedRange ∷ [];
-  requests = Limits.fileLength ∷ Limits.countZero ∷ Limits.manyCorners ∷ Limits.gapRefused ∷ [];
+  requests = Limits.fileLength ∷ Limits.countZero ∷ Limits.manyCorners ∷ Limits.gapRefused ∷ Limits.commaRefused ∷ Limits.badText ∷ [];
 }

@@ -1,5 +1,5 @@
 // Every number that document 01 fixes and a request may change or add to, once: sizes (W4's), ranges, and the refusals by name.
-// specs/ has the same numbers for contracts; the four `tied_` functions below tie the two together.
+// specs/ has the same numbers for contracts; the five `tied_` functions below tie the two together.
 ghost use mathlib.Core.Path.{_≡_};
 ghost use Rattle.limits.specs.Tied.{theSizes, theVerdicts, theRanges, theRefusals};
 
@@ -69,6 +69,9 @@ pub const PART_DIGITS: usize = 2;
 
 pub const MOST_HUNDREDTHS: u32 = 102400;
 
+// W7: how many digits a number of an OFF text may have behind its point.
+pub const OFF_DIGITS: usize = 6;
+
 // The refusals of document 01, "When the desk says no", by name.
 pub const DONE: u8 = 0;
 
@@ -112,7 +115,7 @@ pub const SIZE_ZERO: u8 = 19;
 
 pub const PLACED_RANGE: u8 = 20;
 
-// The refusals that requests add (document 02), of files.
+// The refusals that requests add (document 02): of files (W2), of the gap (W6), of texts (W7).
 pub const FILE_LENGTH: u8 = 21;
 
 pub const COUNT_ZERO: u8 = 22;
@@ -120,6 +123,10 @@ pub const COUNT_ZERO: u8 = 22;
 pub const MANY_CORNERS: u8 = 23;
 
 pub const GAP_REFUSED: u8 = 24;
+
+pub const COMMA_REFUSED: u8 = 25;
+
+pub const BAD_TEXT: u8 = 26;
 
 struct Sizes {
     shapes: usize,
@@ -149,6 +156,7 @@ struct Ranges {
     whole_digits: usize,
     part_digits: usize,
     most_hundredths: u32,
+    off_digits: usize,
 }
 
 struct Verdicts {
@@ -161,7 +169,7 @@ struct Verdicts {
 struct Refusals {
     desk: [u8; 14],
     text: [u8; 7],
-    requests: [u8; 4],
+    requests: [u8; 6],
 }
 
 // The sizes of this file are those of specs/.
@@ -213,6 +221,7 @@ fn tied_ranges() -> Ranges
         whole_digits: WHOLE_DIGITS,
         part_digits: PART_DIGITS,
         most_hundredths: MOST_HUNDREDTHS,
+        off_digits: OFF_DIGITS,
     }
 }
 
@@ -246,6 +255,13 @@ fn tied_refusals() -> Refusals
             SIZE_ZERO,
             PLACED_RANGE,
         ],
-        requests: [FILE_LENGTH, COUNT_ZERO, MANY_CORNERS, GAP_REFUSED],
+        requests: [
+            FILE_LENGTH,
+            COUNT_ZERO,
+            MANY_CORNERS,
+            GAP_REFUSED,
+            COMMA_REFUSED,
+            BAD_TEXT,
+        ],
     }
 }

@@ -1,5 +1,5 @@
 // What is kept from line to line: how much of a lent buffer a command sees.
-// `room N` says how many cells `contacts` and `blank` are lent, and `lend N` how many cells of the marks buffer the desk is.
+// `room N` says how many cells `contacts`, `blank` and others are lent, and `lend N` how many cells of the marks buffer the desk is.
 ghost use mathlib.Core.Path.{_≡_};
 ghost use Prim.Native.Nat.{_+_, _*_, _≤_, min};
 ghost use lib.ListN.{length};
@@ -31,6 +31,13 @@ pub fn start() -> [usize; COUNTS] {
 
 // The numbers of which so many are lent, and those of a line.
 pub fn numbers() -> [i32; MOST_ROOM]
+    ensures { λ r. ⌜ 2 * Limits.rows ≡ length r ⌝ }
+{
+    [0; MOST_ROOM]
+}
+
+// The bytes of which so many are lent, and those of a line's texts: each takes two digits a byte of a line that is no longer.
+pub fn bytes() -> [u8; MOST_ROOM]
     ensures { λ r. ⌜ 2 * Limits.rows ≡ length r ⌝ }
 {
     [0; MOST_ROOM]

@@ -1,4 +1,4 @@
-// What the desk can be asked: the pair of two places, the contacts, the rows, the tallies, the marks, and a report for people.
+// What the desk can be asked: the pair of two places, the contacts, the rows, the tallies, the marks, a shape's text, and a report for people.
 // The desk is only read.
 use crate::report::contact;
 use crate::report::report;
@@ -11,6 +11,8 @@ use crate::tallies::wide_count;
 use desk::contacts::contacts;
 use desk_ask::pair;
 use desk_state::desk_in_order;
+use desk_write::Written;
+use desk_write::write;
 use line::lent;
 use line::lent::at_most;
 use line::out;
@@ -69,6 +71,10 @@ fn question(
             let l = contacts(shapes, places, rows, book, marks, room);
             listed(l, room, out, at)
         }
+        Asked::Write(s) => {
+            let w = write(shapes, places, rows, book, marks, s, room);
+            written(w, room, out, at)
+        }
         _ => {
             if !desk_in_order(shapes, places, rows, book, marks) {
                 return out::refused(out, at, limits::DISORDER);
@@ -109,6 +115,18 @@ fn listed(l: Listed, room: &[u8], out: &mut [u8], at: usize) -> usize {
         }
         Listed::Refused(number) => out::refused(out, at, number),
     }
+}
+
+// The text of a shape in hex, or the refusal. No text is longer than the room, as above.
+fn written(w: Written, room: &[u8], out: &mut [u8], at: usize) -> usize {
+    let number = w.number;
+    if number != limits::DONE {
+        return out::refused(out, at, number);
+    }
+    let count = at_most(w.count, room.len());
+    let next = out::word(out, at, b"0 ");
+    let next = out::text(out, next, &room[0..count]);
+    out::end(out, next)
 }
 
 fn each_byte(bytes: &[u8], out: &mut [u8], at: usize) -> usize {

@@ -10,16 +10,17 @@ use lib.IntN.{ℤ, pos}
 use lib.ListN.{length, getD}
 use Rattle.text_words.specs.Words.{wordsOf, AreNumbers, filled}
 use Rattle.line.specs.Behind.{Finds, NotIn}
+use Rattle.line.specs.declared.kinds.FileKind.the-variants.{Stl as StlFile, Off as OffFile}
 use Rattle.line_spoil.specs.Cells.{CellOf}
 use Rattle.line_spoil.specs.declared.Cell.{Cell}
 use Rattle.line_command.specs.Names.{lengthWord, lineWord, listsWord, scanWord, showWord, blankWord, roomWord, lendWord, spoilWord, loadWord}
-use Rattle.line_command.specs.Names.{stlWord, triangleWord, loadStlWord}
+use Rattle.line_command.specs.Names.{stlWord, triangleWord, offWord, loadStlWord, loadOffWord, saveOffWord, writeWord}
 use Rattle.line_command.specs.Names.{placeWord, moveWord, removeWord, gapWord, pairWord, freshWord, contactsWord, rowsWord, talliesWord, marksWord, reportWord}
 use Rattle.desk.specs.declared.Command.the-variants.{Start, Load, Place, Move, Remove, Gap}
 use Rattle.line_command.specs.declared.Line.{Line}
-use Rattle.line_command.specs.declared.Line.the-variants.{Tell, Ask, Spoil, LoadFile, Other}
-use Rattle.line_command.specs.declared.Asked.the-variants.{Pair, Contacts, Rows, Tallies, Marks, Report}
-use Rattle.line_command.specs.declared.Other.the-variants.{Length, MenuLine, Lists, Scan, Show, Blank, Room, Lend, Stl, Triangle, Nothing, Unknown}
+use Rattle.line_command.specs.declared.Line.the-variants.{Tell, Ask, Spoil, LoadFile, SaveFile, Other}
+use Rattle.line_command.specs.declared.Asked.the-variants.{Pair, Contacts, Rows, Tallies, Marks, Report, Write}
+use Rattle.line_command.specs.declared.Other.the-variants.{Length, MenuLine, Lists, Scan, Show, Blank, Room, Lend, Stl, Triangle, Off, Nothing, Unknown}
 
 -- a line that is no command
 abbrev pub unknown : Line
@@ -60,6 +61,10 @@ settingOf numbers = takes 1 numbers (Tell (Gap (at numbers 0)) 1)
 abbrev pub pairOf : List ℤ → Line
 pairOf numbers = takes 2 numbers (Ask (Pair (at numbers 0) (at numbers 1)))
 
+-- `write S`
+abbrev pub writeOf : List ℤ → Line
+writeOf numbers = takes 1 numbers (Ask (Write (at numbers 0)))
+
 -- the words of the desk, with the numbers behind them
 abbrev pub deskWords : List ℤ → List (List ℕ × Line)
 deskWords numbers =
@@ -75,9 +80,10 @@ deskWords numbers =
     ∷ (talliesWord, takes 0 numbers (Ask Tallies))
     ∷ (marksWord, takes 0 numbers (Ask Marks))
     ∷ (reportWord, takes 0 numbers (Ask Report))
+    ∷ (writeWord, writeOf numbers)
     ∷ []
 
--- the words that the desk has no part in, and the load from a file, whatever is behind them
+-- the words that the desk has no part in, the loads from a file and the save to one, whatever is behind them
 abbrev pub otherWords : List (List ℕ × Line)
 otherWords =
     (lengthWord, Other Length)
@@ -90,7 +96,10 @@ otherWords =
     ∷ (lendWord, Other Lend)
     ∷ (stlWord, Other Stl)
     ∷ (triangleWord, Other Triangle)
-    ∷ (loadStlWord, LoadFile)
+    ∷ (offWord, Other Off)
+    ∷ (loadStlWord, LoadFile StlFile)
+    ∷ (loadOffWord, LoadFile OffFile)
+    ∷ (saveOffWord, SaveFile)
     ∷ []
 
 -- ---- the command of a line
@@ -103,7 +112,7 @@ OfDesk word behind room exit c =
     ((numbers : List ℤ) × AreNumbers behind numbers × (length numbers ≤ length room) × (exit ≡ filled numbers room) × Finds word (deskWords numbers) Unknowing c)
     ⊎ (((numbers : List ℤ) → AreNumbers behind numbers → length numbers ≤ length room → ⊥) × (c ≡ unknown))
 
--- a word that the desk has no part in or the load from a file, `spoil` with the cell that it names, or a word of the desk
+-- a word that the desk has no part in or that names a file, `spoil` with the cell that it names, or a word of the desk
 abbrev pub OfWord : List ℕ → List (List ℕ) → List ℤ → List ℤ → Line → Type 0
 OfWord word behind room exit c =
     ((exit ≡ room) × Finds word otherWords (λ _. ⊥) c)

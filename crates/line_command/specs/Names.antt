@@ -47,6 +47,22 @@ triangleWord = 116 ∷ 114 ∷ 105 ∷ 97 ∷ 110 ∷ 103 ∷ 108 ∷ 101 ∷ []
 abbrev pub loadStlWord : List ℕ
 loadStlWord = 108 ∷ 111 ∷ 97 ∷ 100 ∷ 45 ∷ 115 ∷ 116 ∷ 108 ∷ []
 
+-- "off"
+abbrev pub offWord : List ℕ
+offWord = 111 ∷ 102 ∷ 102 ∷ []
+
+-- "load-off"
+abbrev pub loadOffWord : List ℕ
+loadOffWord = 108 ∷ 111 ∷ 97 ∷ 100 ∷ 45 ∷ 111 ∷ 102 ∷ 102 ∷ []
+
+-- "save-off"
+abbrev pub saveOffWord : List ℕ
+saveOffWord = 115 ∷ 97 ∷ 118 ∷ 101 ∷ 45 ∷ 111 ∷ 102 ∷ 102 ∷ []
+
+-- "write"
+abbrev pub writeWord : List ℕ
+writeWord = 119 ∷ 114 ∷ 105 ∷ 116 ∷ 101 ∷ []
+
 -- "spoil"
 abbrev pub spoilWord : List ℕ
 spoilWord = 115 ∷ 112 ∷ 111 ∷ 105 ∷ 108 ∷ []

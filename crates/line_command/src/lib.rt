@@ -4,8 +4,9 @@ ghost use mathlib.Core.Path.{_≡_};
 ghost use mathlib.Core.Bool.{true};
 ghost use mathlib.Core.Logic.{_↔_};
 ghost use Rattle.line.specs.Behind.{behind, Finds};
-ghost use Rattle.line_command.specs.Lines.{takes, loadOf, placeOf, moveOf, removeOf, settingOf, pairOf, deskWords, Unknowing, OfDesk, OfWord, PassedOver, CommandOf, LineSays};
+ghost use Rattle.line_command.specs.Lines.{takes, loadOf, placeOf, moveOf, removeOf, settingOf, pairOf, writeOf, deskWords, Unknowing, OfDesk, OfWord, PassedOver, CommandOf, LineSays};
 use desk::Command;
+use line::kinds::FileKind;
 use line::lent::MOST_BYTES;
 use line::names::name_of;
 use line::parts::Index;
@@ -16,12 +17,13 @@ use pieces::placement::Offset;
 use pieces::placement::Placement;
 
 // A command of the desk, and how many numbers the line has: of a load those behind the first are the corners'. `LoadFile` is a load from a
-// file, whose name is no number.
+// file of a kind, and `SaveFile` writes a shape to one; a file's name is no number.
 pub enum Line {
     Tell(Command, usize),
     Ask(Asked),
     Spoil(Cell),
-    LoadFile,
+    LoadFile(FileKind),
+    SaveFile,
     Other(Other),
 }
 
@@ -33,6 +35,7 @@ pub enum Asked {
     Tallies,
     Marks,
     Report,
+    Write(i32),
 }
 
 // What the desk has no part in. `Nothing` is a line of no bytes or one that begins with `#`, and `Unknown` a line that is no command.
@@ -47,6 +50,7 @@ pub enum Other {
     Lend,
     Stl,
     Triangle,
+    Off,
     Nothing,
     Unknown,
 }
@@ -61,6 +65,8 @@ const REMOVE_NUMBERS: usize = 1;
 const GAP_NUMBERS: usize = 1;
 
 const PAIR_NUMBERS: usize = 2;
+
+const WRITE_NUMBERS: usize = 1;
 
 // What a line says, where it is not too long.
 pub fn says(line: &[u8], numbers: &mut [i32]) -> Line
@@ -98,7 +104,7 @@ fn of_word(word: &[u8], line: &[u8], end: usize, numbers: &mut [i32]) -> Line
 {
     match name_of(
         word,
-        b" length line lists scan show blank room lend stl triangle load-stl spoil",
+        b" length line lists scan show blank room lend stl triangle off load-stl load-off save-off spoil",
     ) {
         0 => Line::Other(Other::Length),
         1 => Line::Other(Other::MenuLine),
@@ -110,8 +116,11 @@ fn of_word(word: &[u8], line: &[u8], end: usize, numbers: &mut [i32]) -> Line
         7 => Line::Other(Other::Lend),
         8 => Line::Other(Other::Stl),
         9 => Line::Other(Other::Triangle),
-        10 => Line::LoadFile,
-        11 => Line::Spoil(cell_of(line, end, numbers)),
+        10 => Line::Other(Other::Off),
+        11 => Line::LoadFile(FileKind::Stl),
+        12 => Line::LoadFile(FileKind::Off),
+        13 => Line::SaveFile,
+        14 => Line::Spoil(cell_of(line, end, numbers)),
         _ => of_desk(word, line, end, numbers),
     }
 }
@@ -131,7 +140,7 @@ fn numbered(word: &[u8], numbers: &[i32]) -> Line
 {
     match name_of(
         word,
-        b" load place move remove gap pair fresh contacts rows tallies marks report",
+        b" load place move remove gap pair fresh contacts rows tallies marks report write",
     ) {
         0 => load_of(numbers),
         1 => place_of(numbers),
@@ -145,6 +154,7 @@ fn numbered(word: &[u8], numbers: &[i32]) -> Line
         9 => alone(numbers, Line::Ask(Asked::Tallies)),
         10 => alone(numbers, Line::Ask(Asked::Marks)),
         11 => alone(numbers, Line::Ask(Asked::Report)),
+        12 => write_of(numbers),
         _ => Line::Other(Other::Unknown),
     }
 }
@@ -229,4 +239,14 @@ fn pair_of(numbers: &[i32]) -> Line
         return Line::Other(Other::Unknown);
     }
     Line::Ask(Asked::Pair(numbers[0], numbers[1]))
+}
+
+// `write S`
+fn write_of(numbers: &[i32]) -> Line
+    ensures { λ r. ⌜ r ≡ writeOf (now (numbers .entry)) ⌝ }
+{
+    if numbers.len() != WRITE_NUMBERS {
+        return Line::Other(Other::Unknown);
+    }
+    Line::Ask(Asked::Write(numbers[0]))
 }

@@ -5,8 +5,8 @@ use mathlib.Core.Path.{_≡_, sym, ap, _∙_, subst}
 use mathlib.Core.List.{List, [], _∷_, _++_, append-assoc}
 use native.Mathlib.Numerals.{add-one}
 use native.Mathlib.Omega.{arith}
-use lib.IntN.{ℤ}
-use lib.ListN.{length, take, drop}
+use lib.IntN.{ℤ, pos}
+use lib.ListN.{length, take, drop, getD}
 use lib.Seq.{take-append-seam}
 use Rattle.limits.specs.Limits
 use Rattle.limits.specs.Lowest.{Lowest}
@@ -14,12 +14,17 @@ use Rattle.scans_stl.specs.Stl.{numbersOf}
 use Rattle.scans_stl_corners.specs.Kept.{keptOf, wholeRefusals, ShapeReadAs}
 use Rattle.scans_stl_corners.specs.WithinLaws.{numbers-long}
 use Rattle.scans_stl_corners.specs.declared.ShapeRead.{ShapeRead}
+use Rattle.off_number.specs.OffNumber.{InSteps}
+use Rattle.off_text.specs.Off.{wordAt, afterCounts}
+use Rattle.off_read.specs.Corners.{cornerNumbers, offRefusals, OffReadAs}
+use Rattle.off_read.specs.declared.OffRead.{OffRead}
 use Rattle.text_number.specs.Numbers.{Reads}
 use Rattle.text_number.specs.declared.Number.the-variants.{Value}
 use Rattle.text_words.specs.Words.{firstWord, wordsOf}
 use Rattle.line.specs.Behind.{behind}
 use Rattle.line.specs.BehindLaws.{words-are, next-is, behind-some}
-use Rattle.line_file.specs.Requests.{NamesShape, ReadFrom, OfFile, Requests}
+use Rattle.line_file.specs.Requests.{NamesShape, ReadStl, ReadOff, OfFile, Requests}
+use Rattle.line.specs.declared.kinds.FileKind.{FileKind}
 use Rattle.line_file.specs.declared.Request.{Request}
 use Rattle.line_file.specs.declared.Request.the-variants.{Load, Refused, Bad}
 
@@ -30,7 +35,7 @@ behind-cell (x ∷ xs) kept rest h e = ap (λ (j : ℕ). drop 1 (take j (x ∷ (
 
 -- the room afterwards: its first cell, what the reader left in the cells behind that, and nothing or more
 pub written-behind : (file : List ℕ) (numbers part : List ℤ) {after : List ℤ} (more : List ℤ) {r : ShapeRead} → ShapeReadAs file part after r → r .number ≡ Limits.done → 1 ≤ length numbers
-    → ReadFrom (drop 1 (take (r .count + 1) (take 1 numbers ++ (after ++ more))))
+    → ReadStl (drop 1 (take (r .count + 1) (take 1 numbers ++ (after ++ more))))
 written-behind file numbers part {after} more {r} h z l =
     let f = h .filled z in
     let kept = numbersOf (keptOf file) in
@@ -42,6 +47,25 @@ written-behind file numbers part {after} more {r} h z l =
       room = part;
       taken = subst (Lowest (wholeRefusals file part)) z (h .number);
       kept = ap (λ (l : List ℤ). drop 1 (take (r .count + 1) (take 1 numbers ++ l))) whole ∙ behind-cell numbers kept (rest ++ more) l e;
+    }
+
+-- the same of an OFF text
+pub text-behind : (text : List ℕ) (numbers part : List ℤ) {after : List ℤ} (more : List ℤ) {r : OffRead} → OffReadAs text part after r → r .number ≡ Limits.done → 1 ≤ length numbers
+    → ReadOff (drop 1 (take (r .count + 1) (take 1 numbers ++ (after ++ more))))
+text-behind text numbers part {after} more {r} h z l =
+    let w = h .written z .0 in
+    let n = cornerNumbers text in
+    let e : r .count + 1 ≡ length (w .values) + 1 = omega (arith, h .written z .1, w .long) in
+    let whole : after ++ more ≡ w .values ++ (drop n part ++ more) = ap (λ (l : List ℤ). l ++ more) (w .room) ∙ append-assoc (w .values) (drop n part) more in
+    let are : drop 1 (take (r .count + 1) (take 1 numbers ++ (after ++ more))) ≡ w .values =
+    ap (λ (l : List ℤ). drop 1 (take (r .count + 1) (take 1 numbers ++ l))) whole ∙ behind-cell numbers (w .values) (drop n part ++ more) l e in
+    record {
+      text = text;
+      room = part;
+      taken = subst (Lowest (offRefusals text part)) z (h .number);
+      layout = h .layout z;
+      long = ap length are ∙ w .long;
+      steps = λ k m. subst (λ (l : List ℤ). InSteps (wordAt (afterCounts text) k) (getD l k (pos 0))) (sym are) (w .steps k m);
     }
 
 -- ---- the shape that a line names
@@ -62,7 +86,7 @@ names-shape line end next {word} {s} e h n l w r =
       reads = r;
     }
 
-pub requests-file : (line : List ℕ) (numbers : List ℤ) (shape : ℤ) (r : Request) → NamesShape line shape → OfFile shape numbers r → Requests line numbers r
-requests-file line numbers shape (Load s n) h k = (subst (NamesShape line) (sym (k .0)) h, k .1)
-requests-file line numbers shape (Refused number) h k = tt
-requests-file line numbers shape Bad h k = tt
+pub requests-file : (kind : FileKind) (line : List ℕ) (numbers : List ℤ) (shape : ℤ) (r : Request) → NamesShape line shape → OfFile kind shape numbers r → Requests kind line numbers r
+requests-file kind line numbers shape (Load s n) h k = (subst (NamesShape line) (sym (k .0)) h, k .1)
+requests-file kind line numbers shape (Refused number) h k = tt
+requests-file kind line numbers shape Bad h k = tt

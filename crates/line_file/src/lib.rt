@@ -1,9 +1,11 @@
-// `load-stl S PATH`: the number of a shape, and the corners of the scanner's file at a path.
+// `load-stl S PATH` and `load-off S PATH`: the number of a shape, and the corners of the file at a path.
 // No contract says which bytes the system hands over; what is promised is that the corners are those of the bytes that came.
 ghost use Prim.Native.Nat.{_≤_, _-_};
 ghost use mathlib.Core.Path.{_≡_};
 ghost use lib.ListN.{length};
-ghost use Rattle.line_file.specs.Requests.{OfFile, Requests, GotWithin, FileWithin};
+ghost use Rattle.line_file.specs.Requests.{ShapePathOf, OfFile, Requests, GotWithin, FileWithin};
+ghost use Rattle.line.specs.declared.kinds.FileKind.the-variants.{Stl, Off};
+use line::kinds::FileKind;
 use text_number::Number;
 use text_number::read_number;
 
@@ -12,6 +14,12 @@ use text_number::read_number;
 pub enum Request {
     Load(i32, usize),
     Refused(u8),
+    Bad,
+}
+
+// A shape's number, and where the path behind it begins; or the line is no command.
+pub enum ShapePath {
+    At(i32, usize),
     Bad,
 }
 
@@ -37,36 +45,48 @@ fn buffer() -> [u8; FILE_ROOM]
 }
 
 // The line's second word is the shape's number; its path is all that stands behind the space after that.
-pub fn requested(line: &[u8], numbers: &mut [i32]) -> Request
-    ensures { λ r. ⌜ Requests (now (line .entry)) (now (numbers .exit)) r ⌝ }
+pub fn shape_and_path(line: &[u8]) -> ShapePath
+    ensures { λ r. ⌜ ShapePathOf (now (line .entry)) r ⌝ }
 {
     let end = text_words::word_end(line, 0);
     if line.len() <= end {
-        return Request::Bad;
+        return ShapePath::Bad;
     }
     let next = text_words::word_end(line, end + 1);
     if line.len() <= next {
-        return Request::Bad;
+        return ShapePath::Bad;
     }
     let Number::Value(shape) = read_number(&line[end + 1..next]) else {
-        return Request::Bad;
+        return ShapePath::Bad;
     };
-    from_path(shape, &line[next + 1..], numbers)
+    ShapePath::At(shape, next + 1)
 }
 
-fn from_path(shape: i32, path: &[u8], numbers: &mut [i32]) -> Request
-    ensures { λ r. ⌜ OfFile shape (now (numbers .exit)) r ⌝ }
+pub fn requested(kind: FileKind, line: &[u8], numbers: &mut [i32]) -> Request
+    ensures { λ r. ⌜ Requests kind (now (line .entry)) (now (numbers .exit)) r ⌝ }
+{
+    let ShapePath::At(shape, start) = shape_and_path(line) else {
+        return Request::Bad;
+    };
+    from_path(kind, shape, &line[start..], numbers)
+}
+
+fn from_path(kind: FileKind, shape: i32, path: &[u8], numbers: &mut [i32]) -> Request
+    ensures { λ r. ⌜ OfFile kind shape (now (numbers .exit)) r ⌝ }
 {
     let mut room = buffer();
     let File::Bytes(n) = read_file(path, &mut room) else {
         return Request::Bad;
     };
-    from_file(shape, &room[0..n], numbers)
+    match kind {
+        FileKind::Stl => from_stl(shape, &room[0..n], numbers),
+        FileKind::Off => from_off(shape, &room[0..n], numbers),
+    }
 }
 
 // The corners stand behind the room's first cell, as those of a `load` stand behind its first number.
-fn from_file(shape: i32, file: &[u8], numbers: &mut [i32]) -> Request
-    ensures { λ r. ⌜ OfFile shape (now (numbers .exit)) r ⌝ }
+fn from_stl(shape: i32, file: &[u8], numbers: &mut [i32]) -> Request
+    ensures { λ r. ⌜ OfFile Stl shape (now (numbers .exit)) r ⌝ }
 {
     if numbers.len() == 0 {
         return Request::Bad;
@@ -78,6 +98,21 @@ fn from_file(shape: i32, file: &[u8], numbers: &mut [i32]) -> Request
     }
     let count = written.count;
     Request::Load(shape, count + 1)
+}
+
+fn from_off(shape: i32, text: &[u8], numbers: &mut [i32]) -> Request
+    ensures { λ r. ⌜ OfFile Off shape (now (numbers .exit)) r ⌝ }
+{
+    if numbers.len() == 0 {
+        return Request::Bad;
+    }
+    let read = off_read::corners(text, &mut numbers[1..]);
+    let refusal = read.number;
+    if refusal != limits::DONE {
+        return Request::Refused(refusal);
+    }
+    let n = read.count;
+    Request::Load(shape, n + 1)
 }
 
 fn read_file(path: &[u8], room: &mut [u8]) -> File

@@ -1,5 +1,5 @@
 // Numbers of 32 bits, printed one behind the other.
-// Corners come so: those of a blank, of a scanner's file and of its triangles.
+// Corners come so: those of a blank, of a file and of a file's triangles.
 use line::out;
 
 // How many numbers there are, and the numbers.

@@ -1,23 +1,14 @@
 // The commands on texts: a typed length, and a menu's line.
 // `end` is where the command's own word ends.
-ghost use mathlib.Core.Path.{_≡_};
 ghost use Prim.Native.Nat.{_≤_, _<_, _+_};
 ghost use lib.ListN.{length};
 ghost use Rattle.line_read.specs.ReadWithin.{TextsWithin};
-use line::lent::MOST_BYTES;
 use line::out;
 use line::parts::Index;
 use line::parts::WordEnds;
 use line::parts::after;
 use line::parts::read_index;
 use line::parts::three_words;
-
-// Room for the two texts of a `line`: each takes two digits a byte of a line that is no longer.
-pub fn buffer() -> [u8; MOST_BYTES]
-    ensures { λ r. ⌜ 16384 ≡ length r ⌝ }
-{
-    [0; MOST_BYTES]
-}
 
 // `length TEXT`: the bytes after one space, to the line's end. `length` alone is the empty text.
 pub fn length(line: &[u8], end: usize, out: &mut [u8], at: usize) -> usize {

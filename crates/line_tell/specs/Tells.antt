@@ -11,6 +11,7 @@ use Rattle.desk.specs.Commands.{Does}
 use Rattle.desk.specs.declared.Command.{Command}
 use Rattle.desk.specs.declared.Command.the-variants.{Load}
 use Rattle.desk.specs.declared.Outcome.{Outcome}
+use Rattle.line.specs.declared.kinds.FileKind.{FileKind}
 use Rattle.line_file.specs.Requests.{Requests}
 use Rattle.line_file.specs.declared.Request.the-variants.{Load as Loading}
 
@@ -28,8 +29,8 @@ pub record Tells (command : Command) (count : ℕ) (numbers : List ℤ) (m : ℕ
   pub does : Does command (behindFirst count numbers) (lentTo m before) (lentTo m after) outcome
   pub rest : drop m (after .marks) ≡ drop m (before .marks)
 
--- `load-stl`: the desk stays, or it is told to load, at the number that the line names, the corners of a file
-abbrev pub LoadsFile : List ℕ → ℕ → Desk → Desk → Type 0
-LoadsFile line m before after =
+-- `load-stl` and `load-off`: the desk stays, or it is told to load, at the number that the line names, the corners of a file of that kind
+abbrev pub LoadsFile : FileKind → List ℕ → ℕ → Desk → Desk → Type 0
+LoadsFile kind line m before after =
     (after ≡ before)
-    ⊎ ((s : ℤ) × (count : ℕ) × (numbers : List ℤ) × Requests line numbers (Loading s count) × Tells (Load s) count numbers m before after)
+    ⊎ ((s : ℤ) × (count : ℕ) × (numbers : List ℤ) × Requests kind line numbers (Loading s count) × Tells (Load s) count numbers m before after)

@@ -11,6 +11,7 @@ ghost use Rattle.line_tell.specs.Tells.{behindFirst, Tells, LoadsFile};
 use desk::Command;
 use desk::Outcome;
 use desk::start::start;
+use line::kinds::FileKind;
 use line::lent;
 use line::lent::at_most;
 use line::out;
@@ -65,8 +66,10 @@ pub fn tell(
     answered(command, outcome, out, at)
 }
 
-// `load-stl S PATH`: the desk is told to load the corners of a file. Where the reader refuses the file, the desk is not asked.
+// `load-stl S PATH` and `load-off S PATH`: the desk is told to load the corners of a file. Where the reader refuses the file, the desk is
+// not asked.
 pub fn load_file(
+    kind: FileKind,
     line: &[u8],
     numbers: &mut [i32],
     lent: &[usize; lent::COUNTS],
@@ -78,11 +81,11 @@ pub fn load_file(
     out: &mut [u8],
     at: usize,
 ) -> usize
-    ensures { λ _. ⌜ LoadsFile (now (line .entry)) (min (getD (now (lent .entry)) 1 0) (length (now (marks .entry))))
+    ensures { λ _. ⌜ LoadsFile kind (now (line .entry)) (min (getD (now (lent .entry)) 1 0) (length (now (marks .entry))))
         (deskOf (now (shapes .entry)) (now (places .entry)) (now (rows .entry)) (now (book .entry)) (now (marks .entry)))
         (deskOf (now (shapes .exit)) (now (places .exit)) (now (rows .exit)) (now (book .exit)) (now (marks .exit))) ⌝ }
 {
-    match requested(line, numbers) {
+    match requested(kind, line, numbers) {
         Request::Load(shape, count) => tell(
             Command::Load(shape),
             count,

@@ -7,7 +7,7 @@ use lib.IntN.{ℤ}
 use Rattle.desk_state.specs.Desk.{Desk}
 use Rattle.line_command.specs.Lines.{unknown, LineSays}
 use Rattle.line_command.specs.declared.Line.{Line}
-use Rattle.line_command.specs.declared.Line.the-variants.{Tell, Ask, Spoil, LoadFile, Other}
+use Rattle.line_command.specs.declared.Line.the-variants.{Tell, Ask, Spoil, LoadFile, SaveFile, Other}
 use Rattle.line_command.specs.declared.Other.the-variants.{Nothing as NothingSaid}
 use Rattle.line_tell.specs.Tells.{Tells, LoadsFile}
 use Rattle.mudwicket.specs.declared.input.Arrival.{Arrival}
@@ -26,7 +26,8 @@ abbrev pub ByLine : Line → List ℕ → List ℤ → ℕ → Desk → Desk →
 ByLine (Tell command count) line numbers m before after = Tells command count numbers m before after
 ByLine (Ask asked) line numbers m before after = after ≡ before
 ByLine (Spoil cell) line numbers m before after = Unit {0}
-ByLine LoadFile line numbers m before after = LoadsFile line m before after
+ByLine (LoadFile kind) line numbers m before after = LoadsFile kind line m before after
+ByLine SaveFile line numbers m before after = after ≡ before
 ByLine (Other other) line numbers m before after = after ≡ before
 
 pub record Answered (arrival : Arrival) (line : List ℕ) (room : List ℤ) (m : ℕ) (before after : Desk) : Type 0 where

@@ -1,5 +1,5 @@
 -- From a line's command and what was done by it to what is promised of the desk after the line.
--- What the desk is asked, and what it has no part in, leaves it as it was.
+-- What the desk is asked, the saving of a shape, and what it has no part in, leave it as it was.
 use Prim.Native.Nat.{ℕ}
 use mathlib.Core.Path.{_≡_, refl, sym, subst}
 use mathlib.Core.List.{List}
@@ -7,8 +7,9 @@ use lib.IntN.{ℤ}
 use Rattle.desk_state.specs.Desk.{Desk}
 use Rattle.line_spoil.specs.declared.Cell.{Cell}
 use Rattle.desk.specs.declared.Command.{Command}
+use Rattle.line.specs.declared.kinds.FileKind.{FileKind}
 use Rattle.line_command.specs.declared.Line.{Line}
-use Rattle.line_command.specs.declared.Line.the-variants.{Tell, Ask, Spoil, LoadFile, Other}
+use Rattle.line_command.specs.declared.Line.the-variants.{Tell, Ask, Spoil, LoadFile, SaveFile, Other}
 use Rattle.line_command.specs.declared.Asked.{Asked}
 use Rattle.line_command.specs.declared.Other.{Other as OtherLine}
 use Rattle.line_tell.specs.Tells.{Tells, LoadsFile}
@@ -28,8 +29,11 @@ module _ {arrival : Arrival} {line : List ℕ} {room : List ℤ} {c : Line} (num
   pub answered-spoiled : (m : ℕ) (before after : Desk) {cell : Cell} → c ≡ Spoil cell → Answered arrival line room m before after
   answered-spoiled m before after {cell} e = by m before after (Spoil cell) e tt
 
-  pub answered-file : {m : ℕ} {before after : Desk} → c ≡ LoadFile → LoadsFile line m before after → Answered arrival line room m before after
-  answered-file {m} {before} {after} e h = by m before after LoadFile e h
+  pub answered-file : {m : ℕ} {before after : Desk} {kind : FileKind} → c ≡ LoadFile kind → LoadsFile kind line m before after → Answered arrival line room m before after
+  answered-file {m} {before} {after} {kind} e h = by m before after (LoadFile kind) e h
+
+  pub answered-saved : (m : ℕ) (d : Desk) → c ≡ SaveFile → Answered arrival line room m d d
+  answered-saved m d e = by m d d SaveFile e refl
 
   pub answered-other : (m : ℕ) (d : Desk) {other : OtherLine} → c ≡ Other other → Answered arrival line room m d d
   answered-other m d {other} e = by m d d (Other other) e refl

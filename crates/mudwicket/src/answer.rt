@@ -11,10 +11,11 @@ use line_ask::asked;
 use line_command::Line;
 use line_command::Other;
 use line_command::says;
+use line_read::files;
 use line_read::floats;
 use line_read::lists;
-use line_read::stl;
 use line_read::texts;
+use line_save::save;
 use line_spoil::spoil;
 use line_tell::load_file;
 use line_tell::tell;
@@ -54,9 +55,22 @@ pub fn answer(
         ),
         Line::Ask(a) => asked::ask(a, texts, lent, shapes, places, rows, book, marks, out, at),
         Line::Spoil(cell) => spoil(cell, shapes, places, rows, book, marks, out, at),
-        Line::LoadFile => load_file(
+        Line::LoadFile(kind) => load_file(
+            kind,
             line,
             numbers,
+            lent,
+            shapes,
+            places,
+            rows,
+            book,
+            marks,
+            out,
+            at,
+        ),
+        Line::SaveFile => save(
+            line,
+            texts,
             lent,
             shapes,
             places,
@@ -99,8 +113,9 @@ fn other(
         Other::Scan => floats::scan(line, end, out, at),
         Other::Show => floats::show(line, end, out, at),
         Other::Blank => floats::blank(line, end, lent, numbers, out, at),
-        Other::Stl => stl::stl(line, end, texts, lent, numbers, out, at),
-        Other::Triangle => stl::triangle(line, end, texts, out, at),
+        Other::Stl => files::stl(line, end, texts, lent, numbers, out, at),
+        Other::Triangle => files::triangle(line, end, texts, out, at),
+        Other::Off => files::off(line, end, texts, lent, numbers, out, at),
         Other::Room => lent::room(line, end, lent, out, at),
         Other::Lend => lent::lend(line, end, lent, out, at),
         Other::Nothing => at,

@@ -9,7 +9,6 @@ use input::Arrival;
 use input::State;
 use line::lent;
 use line::out;
-use line_read::texts;
 use line_tell::fresh;
 
 // What is lent to every line: the bytes that were read, the answers that were not written yet, room for a command's texts and for its
@@ -17,7 +16,7 @@ use line_tell::fresh;
 fn main() {
     let mut input = io::large_buffer();
     let mut out = out::buffer();
-    let mut texts = texts::buffer();
+    let mut texts = lent::bytes();
     let mut numbers = lent::numbers();
     let mut lent = lent::start();
     let mut shapes = [0i32; limits::SHAPES_LENGTH];

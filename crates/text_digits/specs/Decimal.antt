@@ -37,3 +37,7 @@ pub record Decimal (Separator : ℕ → Type 0) (text whole part : List ℕ) : T
 -- its value, in units of which 10 ^ places make one: the first digit of the part is worth 10 ^ (places - 1) of them
 abbrev pub valueIn : ℕ → List ℕ → List ℕ → ℕ
 valueIn places whole part = number whole * 10 ^ places + number part * 10 ^ (places - length part)
+
+-- where a number that is read stops growing, far above those of a typed length or of a corner, and above what six digits name
+abbrev pub cut : ℕ
+cut = 1000000

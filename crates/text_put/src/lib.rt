@@ -50,7 +50,7 @@ fn put_minus(room: &mut [u8], at: usize, text: &[u8]) -> usize
 }
 
 // A number without its sign. The lowest one has no counterpart above zero, so one is added before the sign is turned and after.
-fn magnitude(n: i64) -> u64
+pub fn magnitude(n: i64) -> u64
     ensures { λ r. ⌜ r ≡ natAbs n ⌝ }
 {
     if n < 0 {

@@ -49,10 +49,6 @@ unfoldable pub whole? : (ds : List ℕ) → Dec (Whole ds)
 unfolding both few? plain?
 whole? ds = both (few? Limits.wholeDigits ds) (plain? ds)
 
--- where a number that is read stops growing, far above those of a typed length
-abbrev pub cut : ℕ
-cut = 1000000
-
 -- hundredths of a millimetre: their steps, or out of range
 unfoldable pub judged : ℕ → Typed
 unfolding decLe

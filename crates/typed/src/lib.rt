@@ -3,14 +3,13 @@
 ghost use mathlib.Core.Path.{_≡_};
 ghost use mathlib.Core.Bool.{true};
 ghost use mathlib.Core.Logic.{_↔_};
-ghost use Prim.Native.Nat.{_≤_, _<_, _+_, _-_, _*_, _^_, min};
+ghost use Prim.Native.Nat.{_≤_, _<_, _+_, _-_, _*_, _^_};
 ghost use lib.ListN.{length, getD, drop};
 ghost use Rattle.limits.specs.Limits;
-ghost use Rattle.text_digits.specs.Decimal.{Digit, number};
-ghost use Rattle.text_digits.specs.DecimalLaws.{leading};
+ghost use Rattle.text_digits.specs.Decimal.{cut};
 ghost use Rattle.typed.specs.TypedLength.{CommaOrPoint, LengthAnswers};
-ghost use Rattle.typed.specs.Reading.{cut, judged, afterSeparator, afterWhole};
-use text_digits::is_digit;
+ghost use Rattle.typed.specs.Reading.{judged, afterSeparator, afterWhole};
+use text_digits::digits;
 
 // The answer to a text: steps, or the number of the refusal.
 pub enum Typed {
@@ -26,15 +25,6 @@ const HUNDREDTHS: u32 = 100;
 
 // What is added before a division by them that rounds up.
 const ROUND_UP: u32 = HUNDREDTHS - 1;
-
-// Where a number that is read stops growing: no typed length has so many digits, and so it fits, however long the text is.
-const CUT: u32 = 1000000;
-
-// The digits that stand at a place: how many, and the number that they name, cut.
-struct Run {
-    count: usize,
-    value: u32,
-}
 
 // The length that a text means, in steps, or the refusal of a text that means none or too long a one.
 pub fn typed_length(text: &[u8]) -> Typed
@@ -126,38 +116,4 @@ fn in_steps(h: u32) -> Typed
         return Typed::Refused(limits::LENGTH_RANGE);
     }
     Typed::Steps((h * STEPS + ROUND_UP) / HUNDREDTHS)
-}
-
-// The digits from a place on.
-fn digits(text: &[u8], from: usize) -> Run
-    requires { ⌜ from ≤ length (now text) ⌝ }
-    ensures count { λ r. ⌜ r .count ≡ length (leading (drop from (now (text .entry)))) ⌝ }
-    ensures value { λ r. ⌜ r .value ≡ min (number (leading (drop from (now (text .entry))))) cut ⌝ }
-{
-    let mut value: u32 = 0;
-    let mut i = from;
-    while i < text.len() {
-        let b = text[i];
-        if !is_digit(b) {
-            return Run {
-                count: i - from,
-                value,
-            };
-        }
-        value = one_more(value, b);
-        i += 1;
-    }
-    Run {
-        count: i - from,
-        value,
-    }
-}
-
-// A number with one digit more behind it, cut.
-fn one_more(value: u32, b: u8) -> u32
-    requires { ⌜ (value ≤ cut) × Digit b ⌝ }
-    ensures { λ r. ⌜ r ≡ min (value * 10 + (b - 48)) cut ⌝ }
-{
-    let next = value * 10 + (b - b'0') as u32;
-    if next < CUT { next } else { CUT }
 }

@@ -5,6 +5,7 @@ mod desks;
 mod dice;
 mod floats;
 mod lists;
+mod off;
 mod refusals;
 pub mod scanner;
 mod script;
@@ -29,10 +30,11 @@ pub enum Kind {
     Menus,
     Lines,
     Full,
+    Off,
 }
 
 impl Kind {
-    pub const ALL: [Kind; 11] = [
+    pub const ALL: [Kind; 12] = [
         Kind::All,
         Kind::Lists,
         Kind::Desk,
@@ -44,6 +46,7 @@ impl Kind {
         Kind::Lines,
         Kind::Full,
         Kind::Stl,
+        Kind::Off,
     ];
 
     pub fn word(self) -> &'static str {
@@ -59,12 +62,13 @@ impl Kind {
             Kind::Menus => "menus",
             Kind::Lines => "lines",
             Kind::Full => "full",
+            Kind::Off => "off",
         }
     }
 }
 
 /// How often `all` turns to each kind.
-const SHARES: [Kind; 15] = [
+const SHARES: [Kind; 16] = [
     Kind::Desk,
     Kind::Desk,
     Kind::Desk,
@@ -80,6 +84,7 @@ const SHARES: [Kind; 15] = [
     Kind::Text,
     Kind::Menus,
     Kind::Lines,
+    Kind::Off,
 ];
 
 /// A script of exactly `count` commands; comments come on top.
@@ -115,5 +120,6 @@ fn write_stretch(kind: Kind, script: &mut Script, dice: &mut Dice) {
         Kind::Menus => texts::menus(script, dice),
         Kind::Lines => texts::lines(script, dice),
         Kind::Full => desks::full_hulls(script, dice),
+        Kind::Off => off::stretch(script, dice),
     }
 }

@@ -68,6 +68,9 @@ alone-requires-5 c κs = search needs
 alone-requires-6 : tie.Need-alone-requires-6
 alone-requires-6 c κs = search needs
 
+write-of-requires : tie.Need-write-of-requires
+write-of-requires c κs = search needs
+
 returns : tie.Need-returns
 returns c = found (c .before .before) 0 (c .before .match .keys1) (c .load-of .ensures)
 
@@ -105,9 +108,12 @@ returns-12 : tie.Need-returns-12
 returns-12 c = found (c .before .before) 11 (c .before .match .keys12) (c .alone6 .ensures)
 
 returns-13 : tie.Need-returns-13
-returns-13 c =
+returns-13 c = found (c .before .before) 12 (c .before .match .keys13) (c .write-of .ensures)
+
+returns-14 : tie.Need-returns-14
+returns-14 c =
     let k = c .before .name-of .result in
-    found (c .before) k refl (sym (value-past (deskWords (c .before .before .before .before .args .numbers .now)) unknown k (none-below k 12 (c .match .rest))))
+    found (c .before) k refl (sym (value-past (deskWords (c .before .before .before .before .args .numbers .now)) unknown k (none-below k 13 (c .match .rest))))
 
 pub numbered-spec : {M : Type 1} → statement M
 numbered-spec =
@@ -127,6 +133,7 @@ numbered-spec =
     alone-requires-4
     alone-requires-5
     alone-requires-6
+    write-of-requires
     returns
     returns-2
     returns-3
@@ -139,4 +146,5 @@ numbered-spec =
     returns-10
     returns-11
     returns-12
-    returns-13)
+    returns-13
+    returns-14)

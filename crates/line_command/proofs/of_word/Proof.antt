@@ -21,19 +21,19 @@ named : (c : tie.After-name-of) → NameOf (c .before .before .before .before .a
 unfolding behind partsOf decLt ℕ-discrete
 named c = c .name-of .ensures
 
-other : (c : tie.After-name-of) (k : ℕ) {l : Line} → c .name-of .result ≡ k → k < 11 → l ≡ valueOf otherWords unknown k
+other : (c : tie.After-name-of) (k : ℕ) {l : Line} → c .name-of .result ≡ k → k < 14 → l ≡ valueOf otherWords unknown k
     → Finds (c .before .before .before .before .args .word .now) otherWords (λ _. ⊥) l
 other c k e h f =
     let w = c .before .before .before .before .args .word .now in
     rw f (named-in w otherWords (spoilWord ∷ []) (λ _. ⊥) unknown k (subst (NameOf w (namesOf otherWords ++ spoilWord ∷ [])) e (named c)) h)
 
-past : (c : tie.After-name-of) (m : ℕ) → c .name-of .result ≡ 11 + m → let w = c .before .before .before .before .args .word .now in NotIn w otherWords × NameOf w (spoilWord ∷ []) m
+past : (c : tie.After-name-of) (m : ℕ) → c .name-of .result ≡ 14 + m → let w = c .before .before .before .before .args .word .now in NotIn w otherWords × NameOf w (spoilWord ∷ []) m
 past c m e = named-past (c .before .before .before .before .args .word .now) otherWords (spoilWord ∷ []) (c .name-of .result) m e (named c)
 
-beyond : (c : tie.After-name-of) → 12 ≤ c .name-of .result → let w = c .before .before .before .before .args .word .now in NotIn w otherWords × (w ≡ spoilWord → ⊥)
+beyond : (c : tie.After-name-of) → 15 ≤ c .name-of .result → let w = c .before .before .before .before .args .word .now in NotIn w otherWords × (w ≡ spoilWord → ⊥)
 beyond c h =
-    let k = c .name-of .result - 11 in
-    let e : c .name-of .result ≡ 11 + k = omega (arith, h) in
+    let k = c .name-of .result - 14 in
+    let e : c .name-of .result ≡ 14 + k = omega (arith, h) in
     let z : 0 < k = omega (arith, h) in
     let r = past c k e in
     (r .0, name-not (c .before .before .before .before .args .word .now) spoilWord [] k z (r .1))
@@ -83,23 +83,32 @@ returns-10 c = inl (refl, other (c .before) 9 (c .match .keys10) (omega arith) r
 returns-11 : tie.Need-returns-11
 returns-11 c = inl (refl, other (c .before) 10 (c .match .keys11) (omega arith) refl)
 
+returns-12 : tie.Need-returns-12
+returns-12 c = inl (refl, other (c .before) 11 (c .match .keys12) (omega arith) refl)
+
+returns-13 : tie.Need-returns-13
+returns-13 c = inl (refl, other (c .before) 12 (c .match .keys13) (omega arith) refl)
+
+returns-14 : tie.Need-returns-14
+returns-14 c = inl (refl, other (c .before) 13 (c .match .keys14) (omega arith) refl)
+
 same-length : tie.Need-same-length
 same-length c = search needs
 
-returns-12 : tie.Need-returns-12
-returns-12 c =
+returns-15 : tie.Need-returns-15
+returns-15 c =
     let m = c .before .before .before in
-    let r = past (m .before) 0 (m .match .keys12) in
+    let r = past (m .before) 0 (m .match .keys15) in
     let a = m .before .before .before .before .before .args in
     inr (r .0, inl (name-zero (a .word .now) spoilWord [] (r .1), (c .before .cell-of .result, c .before .cell-of .ensures, refl)))
 
 same-length-2 : tie.Need-same-length-2
 same-length-2 c = search needs
 
-returns-13 : tie.Need-returns-13
-returns-13 c =
+returns-16 : tie.Need-returns-16
+returns-16 c =
     let m = c .before .before .before in
-    let r = beyond (m .before) (none-below (m .before .name-of .result) 12 (m .match .rest)) in
+    let r = beyond (m .before) (none-below (m .before .name-of .result) 15 (m .match .rest)) in
     inr (r .0, inr (r .1, c .before .of-desk .ensures))
 
 pub of-word-spec : {M : Type 1} → statement M
@@ -121,7 +130,10 @@ of-word-spec =
     returns-9
     returns-10
     returns-11
-    same-length
     returns-12
+    returns-13
+    returns-14
+    same-length
+    returns-15
     same-length-2
-    returns-13)
+    returns-16)

@@ -1,10 +1,12 @@
--- `line_file::from_path` meets its contract: what was read of the file stands in the room, and is handed on.
+-- `line_file::from_path` meets its contract: what was read of the file stands in the room, and is handed on to the reader of its kind.
 use borrow.Author.Needs.{needs}
-use mathlib.Core.Path.{subst}
+use mathlib.Core.Path.{sym, subst}
 use native.Mathlib.Omega.{arith}
 use mir.Syntax.{w32}
 use mir.ValLaws.{toZ-ofZ}
 use lib.IntN.{ℤ}
+use Rattle.line.specs.declared.kinds.FileKind.{FileKind}
+use Rattle.line.specs.declared.kinds.FileKind.the-variants.{Stl, Off}
 use Rattle.line_file.specs.Requests.{OfFile, FileWithin}
 use Rattle.line_file.proofs.from_path.Statement.{statement}
 use Rattle.line_file.proofs.from_path.Tie as tie
@@ -27,25 +29,57 @@ enum-told c = search needs
 returns : tie.Need-returns
 returns c = search needs
 
-sub-from-file : tie.Need-sub-from-file
-sub-from-file c = search needs
+enum-told-2 : tie.Need-enum-told-2
+enum-told-2 c = search needs
 
-part-from-file-start : tie.Need-part-from-file-start
-part-from-file-start c = search needs
+sub-from-stl : tie.Need-sub-from-stl
+sub-from-stl c = search needs
 
-part-from-file-end : tie.Need-part-from-file-end
-part-from-file-end c = omega (arith, subst (FileWithin _) (c .before .before .n .given .1) (c .before .before .before .before .before .read-file .ensures))
+part-from-stl-start : tie.Need-part-from-stl-start
+part-from-stl-start c = search needs
 
-from-file-requires : tie.Need-from-file-requires
-from-file-requires c κs = search needs
+part-from-stl-end : tie.Need-part-from-stl-end
+part-from-stl-end c = omega (arith, subst (FileWithin _) (c .before .before .before .before .n .given .1) (c .before .before .before .before .before .before .before .read-file .ensures))
+
+from-stl-requires : tie.Need-from-stl-requires
+from-stl-requires c κs = search needs
+
+enum-told-3 : tie.Need-enum-told-3
+enum-told-3 c = search needs
+
+sub-from-off : tie.Need-sub-from-off
+sub-from-off c = search needs
+
+part-from-off-start : tie.Need-part-from-off-start
+part-from-off-start c = search needs
+
+part-from-off-end : tie.Need-part-from-off-end
+part-from-off-end c = omega (arith, subst (FileWithin _) (c .before .before .before .before .n .given .1) (c .before .before .before .before .before .before .before .read-file .ensures))
+
+from-off-requires : tie.Need-from-off-requires
+from-off-requires c κs = search needs
 
 same-length : tie.Need-same-length
 same-length c = search needs
 
 returns-2 : tie.Need-returns-2
 returns-2 c =
-    let a = c .before .before .before .before .before .before .before .before .before .before .before .before .before in
-    subst (λ (s : ℤ). OfFile s (c .before .from-file .last .1 .1 .0) (c .before .from-file .result)) (toZ-ofZ w32 (a .args .shape) (a .fits .shape)) (c .before .from-file .ensures)
+    let a = c .before .before .before .before .before .before .before .before .before .before .before .before .before .before .before in
+    let f = c .before .from-stl in
+    let room = f .last .1 .1 .0 in
+    let read = subst (λ (s : ℤ). OfFile Stl s room (f .result)) (toZ-ofZ w32 (a .args .shape) (a .fits .shape)) (f .ensures) in
+    subst (λ (k : FileKind). OfFile k (a .args .shape) room (f .result)) (sym (c .before .before .before .before .before .enum-told2 .given .1)) read
+
+same-length-2 : tie.Need-same-length-2
+same-length-2 c = search needs
+
+returns-3 : tie.Need-returns-3
+returns-3 c =
+    let a = c .before .before .before .before .before .before .before .before .before .before .before .before .before .before .before in
+    let f = c .before .from-off in
+    let room = f .last .1 .1 .0 in
+    let read = subst (λ (s : ℤ). OfFile Off s room (f .result)) (toZ-ofZ w32 (a .args .shape) (a .fits .shape)) (f .ensures) in
+    subst (λ (k : FileKind). OfFile k (a .args .shape) room (f .result)) (sym (c .before .before .before .before .before .enum-told3 .given .1)) read
 
 pub from-path-spec : {M : Type 1} → statement M
 from-path-spec =
@@ -57,9 +91,17 @@ from-path-spec =
     enum-known-n
     enum-told
     returns
-    sub-from-file
-    part-from-file-start
-    part-from-file-end
-    from-file-requires
+    enum-told-2
+    sub-from-stl
+    part-from-stl-start
+    part-from-stl-end
+    from-stl-requires
+    enum-told-3
+    sub-from-off
+    part-from-off-start
+    part-from-off-end
+    from-off-requires
     same-length
-    returns-2)
+    returns-2
+    same-length-2
+    returns-3)

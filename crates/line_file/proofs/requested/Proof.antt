@@ -1,50 +1,23 @@
--- `line_file::requested` meets its contract: the second word, as it was read, is the shape's number.
+-- `line_file::requested` meets its contract: what is read of the file is for the shape that the line names.
 use borrow.Author.Needs.{needs}
-use Prim.Native.Nat.{ℕ, _+_, _-_}
-use mathlib.Core.Path.{_≡_, ap, _∙_, subst}
+use mathlib.Core.Path.{subst}
 use native.Mathlib.Omega.{arith}
 use mir.Syntax.{w32}
 use mir.Facts.{toZ-ofZ}
 use lib.IntN.{ℤ}
-use lib.ListN.{length, take, drop}
 use Rattle.ints.specs.Bounds.{fits-in}
-use Rattle.text_cut.specs.CutLaws.{first-take}
-use Rattle.text_words.specs.Words.{spaceByte, firstWord}
-use Rattle.text_number.specs.Numbers.{Reads}
-use Rattle.line_file.specs.Requests.{OfFile}
-use Rattle.line_file.specs.RequestLaws.{names-shape, requests-file}
+use Rattle.line_file.specs.Requests.{ShapePathOf, OfFile}
+use Rattle.line_file.specs.RequestLaws.{requests-file}
+use Rattle.line_file.specs.declared.ShapePath.the-variants.{At}
 use Rattle.line_file.proofs.requested.Statement.{statement}
 use Rattle.line_file.proofs.requested.Tie as tie
 
-word-end-requires : tie.Need-word-end-requires
-word-end-requires c κs = search needs
+-- the shape that the line names, and where its path begins
+named : (c : tie.After-known-told) → let s = c .before .shape .given .0 in ShapePathOf (c .before .before .before .before .before .args .line .now) (At (s .0) (s .1 .0))
+named c = subst (ShapePathOf (c .before .before .before .before .before .args .line .now)) (c .before .shape .given .1) (c .before .before .before .shape-and-path .ensures)
 
-returns : tie.Need-returns
-returns c = search needs
-
-add-word-end : tie.Need-add-word-end
-add-word-end c = search needs
-
-word-end-requires-2 : tie.Need-word-end-requires-2
-word-end-requires-2 c κs = search needs
-
-returns-2 : tie.Need-returns-2
-returns-2 c = search needs
-
-add-read-number : tie.Need-add-read-number
-add-read-number c = search needs
-
-sub-read-number : tie.Need-sub-read-number
-sub-read-number c = search needs
-
-part-read-number-start : tie.Need-part-read-number-start
-part-read-number-start c = search needs
-
-part-read-number-end : tie.Need-part-read-number-end
-part-read-number-end c = search needs
-
-read-number-requires : tie.Need-read-number-requires
-read-number-requires c κs = search needs
+shape-and-path-requires : tie.Need-shape-and-path-requires
+shape-and-path-requires c κs = search needs
 
 enum-known-shape : tie.Need-enum-known-shape
 enum-known-shape c = search needs
@@ -52,17 +25,14 @@ enum-known-shape c = search needs
 enum-told : tie.Need-enum-told
 enum-told c = search needs
 
-returns-3 : tie.Need-returns-3
-returns-3 c = search needs
-
-add-from-path : tie.Need-add-from-path
-add-from-path c = search needs
+returns : tie.Need-returns
+returns c = search needs
 
 sub-from-path : tie.Need-sub-from-path
-sub-from-path c = search needs
+sub-from-path c = named c .1
 
 part-from-path-start : tie.Need-part-from-path-start
-part-from-path-start c = search needs
+part-from-path-start c = named c .1
 
 part-from-path-end : tie.Need-part-from-path-end
 part-from-path-end c = search needs
@@ -73,48 +43,28 @@ from-path-requires c κs = search needs
 same-length : tie.Need-same-length
 same-length c = search needs
 
-returns-4 : tie.Need-returns-4
-returns-4 c =
-    let line = c .before .before .before .before .before .before .before .before .before .before .before .before .before .before .args .line .now in
-    let w = c .before .before .before .before .before .before .before .before .before .before .before .before .word-end in
-    let v = c .before .before .before .before .before .before .before .before .before .before .word-end2 in
-    let back = drop (w .result + 1) line in
-    let e : w .result ≡ length (firstWord line) = omega (arith, w .ensures .0) in
-    let long : v .result - (w .result + 1) ≡ length (firstWord back) = omega (
-      arith,
-      v .ensures .0,
-      c .before .before .before .before .before .before .before .before .before .before .before .if1 .left,
-    ) in
-    let word : take (v .result - (w .result + 1)) back ≡ firstWord back = ap (λ (k : ℕ). take k back) long ∙ first-take spaceByte back in
-    let reads = subst (Reads _) (c .before .before .before .before .before .shape .given .1) (c .before .before .before .before .before .before .before .read-number .ensures) in
-    let names = names-shape line (w .result) (v .result) e (omega (arith, c .before .before .before .before .before .before .before .before .before .before .before .if1 .left))
-    (v .ensures .0) (omega (arith, c .before .before .before .before .before .before .before .before .before .if2 .left)) word reads in
+returns-2 : tie.Need-returns-2
+returns-2 c =
+    let k = c .before .before .before .before in
+    let a = k .before .before .before .before .before .args in
     let f = c .before .from-path in
-    let shape = c .before .before .before .before .before .shape .given .0 .0 in
-    let same = toZ-ofZ (fits-in w32 shape 2147483648 2147483647 (reads .1) (omega arith) (omega arith)) in
-    requests-file line (f .last .1 .1 .0) shape (f .result) names (subst (λ (s : ℤ). OfFile s (f .last .1 .1 .0) (f .result)) same (f .ensures))
+    let shape = k .before .shape .given .0 .0 in
+    let names = named k .0 in
+    let same = toZ-ofZ (fits-in w32 shape 2147483648 2147483647 (names .reads .1) (omega arith) (omega arith)) in
+    let room = f .last .1 .1 .1 .0 in
+    requests-file (a .kind) (a .line .now) room shape (f .result) names (subst (λ (s : ℤ). OfFile (a .kind) s room (f .result)) same (f .ensures))
 
 pub requested-spec : {M : Type 1} → statement M
 requested-spec =
     tie.close
     (tie.spec
-    word-end-requires
-    returns
-    add-word-end
-    word-end-requires-2
-    returns-2
-    add-read-number
-    sub-read-number
-    part-read-number-start
-    part-read-number-end
-    read-number-requires
+    shape-and-path-requires
     enum-known-shape
     enum-told
-    returns-3
-    add-from-path
+    returns
     sub-from-path
     part-from-path-start
     part-from-path-end
     from-path-requires
     same-length
-    returns-4)
+    returns-2)

@@ -46,17 +46,18 @@ same-length-3 c = search needs
 returns : tie.Need-returns
 returns c =
     let start = c .before .before .before .before .before .before .before .before .before .before .before .before in
-    let line = start .before .before .before .before .before .before .before .before .before .args .line .now in
+    let a = start .before .before .before .before .before .before .before .before .before .args in
+    let line = a .line .now in
     let told = c .before .before .before .before .before .before .before .before .before .before .before .before .before .shape .given in
     let q = c .before .before .before .before .before .before .before .before .before .before .before .before .before .before .before .before .requested in
-    let numbers = q .last .1 .0 in
-    let asked = subst (Requests line numbers) (told .1) (q .ensures) in
+    let numbers = q .last .1 .1 .0 in
+    let asked = subst (Requests (a .kind) line numbers) (told .1) (q .ensures) in
     let same = toZ-ofZ (fits-in w32 (told .0 .0) 2147483648 2147483647 (asked .0 .reads .1) (omega arith) (omega arith)) in
     inr (
       toZ w32 (ofZ w32 (told .0 .0)),
       told .0 .1 .0,
       numbers,
-      subst (λ (s : ℤ). Requests line numbers (Loading s (told .0 .1 .0))) (sym same) asked,
+      subst (λ (s : ℤ). Requests (a .kind) line numbers (Loading s (told .0 .1 .0))) (sym same) asked,
       c .before .before .before .before .tell .ensures,
     )
 

@@ -1,27 +1,17 @@
 -- `text_put::put_number` meets its contract: the digits are those of the number without its sign.
 use Prim.Native.Nat.{ℕ}
 use mathlib.Core.List.{List, _∷_}
-use mathlib.Core.Path.{_≡_, refl, sym, ap, _∙_, subst}
-use mathlib.Core.Bool.{true, false, false≢true}
-use borrow.Author.Tests.{ltb-true}
-use native.Mathlib.Omega.{arith}
-use lib.IntN.{ℤ, pos, negsuc, natAbs}
+use mathlib.Core.Path.{_≡_, sym, ap, _∙_, subst}
+use lib.IntN.{ℤ, pos, natAbs}
 use lib.ListN.{take}
 use lib.Signed.{ltZ}
 use mir.Facts.{toZ-ofZ}
 use Rattle.io.specs.Digits.{digits, Fewest}
 use Rattle.text_put.specs.Print.{Put, Written, signed, PutNumber}
+use Rattle.text_put.specs.PrintLaws.{signed-below, signed-from-zero}
 use borrow.Author.Needs.{needs}
 use Rattle.text_put.proofs.put_number.Statement.{statement}
 use Rattle.text_put.proofs.put_number.Tie as tie
-
-below : (n : ℤ) (text : List ℕ) → ltZ n (pos 0) ≡ true → signed n text ≡ 45 ∷ text
-below (pos n) text t = absurd (omega (arith, ltb-true n 0 t))
-below (negsuc n) text t = refl
-
-from-zero : (n : ℤ) (text : List ℕ) → ltZ n (pos 0) ≡ false → signed n text ≡ text
-from-zero (pos n) text t = refl
-from-zero (negsuc n) text t = absurd (false≢true (sym t))
 
 -- the digits of the number without its sign, and the text that they make with it
 printed : {room : List ℕ} {at : ℕ} (n : ℤ) {exit : List ℕ} {r : ℕ} (m k : ℕ) (text whole : List ℕ) → m ≡ natAbs n → Fewest 10 1 m k → text ≡ digits 10 k m → signed n text ≡ whole
@@ -56,7 +46,7 @@ returns c =
     let z = g .before .before in
     let text = take (d .decimal .result) (d .decimal .last .1 .0) in
     printed (z .args .n) (g .magnitude .result) (d .decimal .result) text (45 ∷ text) (g .magnitude .ensures ∙ ap natAbs (toZ-ofZ (z .fits .n))) (d .decimal .ensures .1 .0) (d .decimal .ensures .1 .1)
-    (below (z .args .n) text (ap (λ (x : ℤ). ltZ x (pos 0)) (sym (toZ-ofZ (z .fits .n))) ∙ t .if1 .taken))
+    (signed-below (z .args .n) text (ap (λ (x : ℤ). ltZ x (pos 0)) (sym (toZ-ofZ (z .fits .n))) ∙ t .if1 .taken))
     (p .put-minus .ensures)
 
 array-share-prefix-digits-2 : tie.Need-array-share-prefix-digits-2
@@ -80,7 +70,7 @@ returns-2 c =
     let z = g .before .before in
     let text = take (d .decimal .result) (d .decimal .last .1 .0) in
     printed (z .args .n) (g .magnitude .result) (d .decimal .result) text text (g .magnitude .ensures ∙ ap natAbs (toZ-ofZ (z .fits .n))) (d .decimal .ensures .1 .0) (d .decimal .ensures .1 .1)
-    (from-zero (z .args .n) text (ap (λ (x : ℤ). ltZ x (pos 0)) (sym (toZ-ofZ (z .fits .n))) ∙ t .if1 .left))
+    (signed-from-zero (z .args .n) text (ap (λ (x : ℤ). ltZ x (pos 0)) (sym (toZ-ofZ (z .fits .n))) ∙ t .if1 .left))
     (p .put .ensures)
 
 pub put-number-spec : {M : Type 1} → statement M

@@ -8,9 +8,9 @@ use native.Mathlib.Nat.{mul-le-mul}
 use native.Mathlib.Omega.{arith}
 use lib.ListN.{length, drop, length-drop}
 use Rattle.limits.specs.Limits
-use Rattle.text_digits.specs.Decimal.{Digits, number}
+use Rattle.text_digits.specs.Decimal.{Digits, number, cut}
 use Rattle.text_digits.specs.DecimalLaws.{leading, leading-digits, leading-all, digits-leading, number-few}
-use Rattle.typed.specs.Reading.{Few, cut, judged}
+use Rattle.typed.specs.Reading.{Few, judged}
 use Rattle.typed.specs.ReadingLaws.{part-refused, part-taken}
 use Rattle.typed.proofs.after_separator.Statement.{statement}
 use Rattle.typed.proofs.after_separator.Tie as tie

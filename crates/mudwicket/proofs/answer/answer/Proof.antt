@@ -2,7 +2,7 @@
 use Prim.Native.Nat.{min}
 use lib.ListN.{length, getD}
 use Rattle.desk_state.specs.Desk.{deskOf}
-use Rattle.mudwicket.specs.AnsweredLaws.{answered-told, answered-asked, answered-spoiled, answered-file, answered-other}
+use Rattle.mudwicket.specs.AnsweredLaws.{answered-told, answered-asked, answered-spoiled, answered-file, answered-saved, answered-other}
 use borrow.Author.Needs.{needs}
 use Rattle.mudwicket.proofs.answer.answer.Statement.{statement}
 use Rattle.mudwicket.proofs.answer.answer.Tie as tie
@@ -28,11 +28,17 @@ enum-known-cell c = search needs
 spoil-requires : tie.Need-spoil-requires
 spoil-requires c κs = search needs
 
-enum-told : tie.Need-enum-told
-enum-told c = search needs
+enum-known-kind : tie.Need-enum-known-kind
+enum-known-kind c = search needs
 
 load-file-requires : tie.Need-load-file-requires
 load-file-requires c κs = search needs
+
+enum-told : tie.Need-enum-told
+enum-told c = search needs
+
+save-requires : tie.Need-save-requires
+save-requires c κs = search needs
 
 enum-known-o : tie.Need-enum-known-o
 enum-known-o c = search needs
@@ -104,9 +110,9 @@ same-length-13 c = search needs
 
 returns-4 : tie.Need-returns-4
 returns-4 c =
-    let k = c .before .before .before .before .before .before .before .before .before .before .before .before .before .before in
+    let k = c .before .before .before .before .before .before .before .before .before .before .before .before .before .before .before in
     let f = k .before .before .before in
-    answered-file (f .command-in .last .1 .1 .0) (f .command-in .ensures) (k .enum-told .given .1) (c .before .before .before .before .before .load-file .ensures)
+    answered-file (f .command-in .last .1 .1 .0) (f .command-in .ensures) (k .kind .given .1) (c .before .before .before .before .before .load-file .ensures)
 
 same-length-14 : tie.Need-same-length-14
 same-length-14 c = search needs
@@ -117,8 +123,28 @@ same-length-15 c = search needs
 same-length-16 : tie.Need-same-length-16
 same-length-16 c = search needs
 
+same-length-17 : tie.Need-same-length-17
+same-length-17 c = search needs
+
 returns-5 : tie.Need-returns-5
 returns-5 c =
+    let k = c .before .before .before .before .before .before .before .before .before .before .before .before .before in
+    let f = k .before .before .before in
+    let a = f .before .before .before .before .before .before .args in
+    answered-saved (f .command-in .last .1 .1 .0) (f .command-in .ensures)
+    (min (getD (a .lent .now) 1 0) (length (a .marks .now))) (deskOf (a .shapes .now) (a .places .now) (a .rows .now) (a .book .now) (a .marks .now)) (k .enum-told .given .1)
+
+same-length-18 : tie.Need-same-length-18
+same-length-18 c = search needs
+
+same-length-19 : tie.Need-same-length-19
+same-length-19 c = search needs
+
+same-length-20 : tie.Need-same-length-20
+same-length-20 c = search needs
+
+returns-6 : tie.Need-returns-6
+returns-6 c =
     let k = c .before .before .before .before .before .before .before .before .before .before .before in
     let f = k .before .before .before in
     let a = f .before .before .before .before .before .before .args in
@@ -136,8 +162,10 @@ answer-spec =
     ask-requires
     enum-known-cell
     spoil-requires
-    enum-told
+    enum-known-kind
     load-file-requires
+    enum-told
+    save-requires
     enum-known-o
     other-requires
     same-length
@@ -160,4 +188,9 @@ answer-spec =
     same-length-14
     same-length-15
     same-length-16
-    returns-5)
+    same-length-17
+    returns-5
+    same-length-18
+    same-length-19
+    same-length-20
+    returns-6)

@@ -1,6 +1,5 @@
 -- `rows_right::row::verdict_of`: the verdict of the two pieces' placed corners.
 -- The numbers in front of each array are the piece's.
-use native.Mathlib.Omega.{arith}
 use Rattle.rows_right.specs.RowLaws.{carries-at, front, front-placed, front-length}
 use borrow.Author.Needs.{needs}
 use Rattle.rows_right.proofs.row.verdict_of.Statement.{statement}
@@ -39,7 +38,7 @@ slice-aggregate-verdict-2 c = front-length (c .before .before .piece-numbers2 .e
 verdict-requires : tie.Need-verdict-requires
 verdict-requires c κs =
     let s = c .before .before .before .before .before .before in (
-      omega (arith, s .pre .1),
+      s .pre .1,
       (
         front-placed (s .pre .0 .0) (c .before .before .before .piece-numbers .ensures) (c .before .before .before .before .before .piece-count .ensures .0),
         front-placed (s .pre .0 .1) (c .before .before .piece-numbers2 .ensures) (c .before .before .before .before .piece-count2 .ensures .0),
