@@ -34,7 +34,7 @@ fn rest_in_order(
     if !rows_in_order(places, rows) {
         return false;
     }
-    book_in_order(rows, book)
+    book_in_order(places, rows, book)
 }
 
 // Whether a desk is in order; if it is, x, y and z are the keys of its marks. The boxes are those of its shapes.
@@ -56,9 +56,7 @@ pub fn desk_tested(
     if !pieces_in_order(shapes, places, boxes) {
         return false;
     }
-    put_keys(boxes, places, 0, x);
-    put_keys(boxes, places, 1, y);
-    put_keys(boxes, places, 2, z);
+    put_keys(boxes, places, x, y, z);
     rest_in_order(places, rows, book, marks, x, y, z)
 }
 

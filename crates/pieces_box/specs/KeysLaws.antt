@@ -1,33 +1,29 @@
 -- What is worked out of the boxes is the desk's: the ends of its pieces, and so the keys of its marks (`keyed-in`).
 -- Of shapes and places in order, everything that is asked of the boxes holds (`all-asked`).
 use Prim.Native.Nat.{ℕ, _≤_, _<_, _+_, _*_, _/_, _%_}
-use mathlib.Core.Path.{_≡_, refl, sym, ap, ap₂, _∙_, subst}
+use mathlib.Core.Path.{_≡_, refl, sym, ap, _∙_, subst}
 use mathlib.Core.Bool.{Bool, true, false, cond, _&&_}
 use mathlib.Core.List.{List}
 use native.Mathlib.Omega.{arith}
 use lib.Dec.{eqb}
-use lib.IntN.{ℤ, pos, natAbs, _+ℤ_}
-use lib.Signed.{_≤ℤ_, ltZ}
+use lib.IntN.{ℤ, natAbs}
 use lib.ListN.{length, getD, set, length-set}
 use lib.Seq.{getD-set-same, getD-set-other, ext-getD}
 use borrow.Author.Count.{below-more}
 use borrow.Author.Tests.{lt-ltb, eq-eqb, ne-eqb}
 use Rattle.limits.specs.Limits
 use Rattle.ints.specs.Bounds.{Within}
-use Rattle.ints.specs.Order.{≤ℤ-trans}
-use Rattle.turns.specs.Range.{placed-within}
-use Rattle.turns.specs.Turns.{along, signedAxis, turnedAt, placedAt}
+use Rattle.turns.specs.Turns.{signedAxis}
 use Rattle.marks.specs.Marks.{axisOf, isMark, markValue}
 use Rattle.marks.specs.Keys.{keyFor, noKey, keyAt, Keyed}
 use Rattle.marks.specs.Order.{at-mark, at-none}
-use Rattle.pieces.specs.Pieces.{Store, Taken, takenIn, turnIn, PiecesInOrder, axesOf, takenAt, shapeAt, turnAt, offsetAt, countAt, countIn, lowAt, highAt, leastTo, greatestTo}
-use Rattle.pieces.specs.EndLaws.{least-bound, greatest-bound}
+use Rattle.pieces.specs.Pieces.{Store, Taken, takenIn, turnIn, PiecesInOrder, axesOf, takenAt, shapeAt, turnAt, offsetAt, countAt}
 use Rattle.pieces.specs.Store.{taken-of, ranged}
 use Rattle.pieces_box.specs.declared.boxes.Ends.{Ends}
 use Rattle.pieces_box.specs.declared.boxes.ShapeBox.{ShapeBox}
-use Rattle.pieces_box.specs.ShapeBox.{axisNumber, between, endsOn, onAxis, boxOf, boxHeld, endsIn, Boxed, NearEnds, NearBox, EndsAsked, AllAsked, keyIn, KeysIn}
-use Rattle.pieces_box.specs.NearLaws.{near-box}
-use Rattle.pieces_box.specs.TurnedLaws.{endsOf, ends-turned, corners-turned}
+use Rattle.pieces_box.specs.ShapeBox.{endsAlong, movedBy, boxOf, boxHeld, endsIn, Boxed, NearBox, EndsAsked, AllAsked, keyIn, KeysIn, KeysTo}
+use Rattle.pieces_box.specs.NearLaws.{near-box, near-along, moved-near}
+use Rattle.pieces_box.specs.TurnedLaws.{endsOf, ends-turned}
 
 module _ {d : Store} {boxes : List ℤ} (o : PiecesInOrder d) (b : Boxed (d .shapes) boxes) where
   module _ {p : ℕ} (t : Taken (d .places) p) where
@@ -40,27 +36,9 @@ module _ {d : Store} {boxes : List ℤ} (o : PiecesInOrder d) (b : Boxed (d .sha
     box-is : boxHeld boxes (d .places) p ≡ boxOf (d .shapes) (shapeAt d p)
     box-is = b .is (shapeAt d p) shape< (o .shapes .few (shapeAt d p) shape<) (o .places .all p t .loaded .some)
 
-    -- no end is above the other
-    rising : (axis : ℕ) → endsOn (boxOf (d .shapes) (shapeAt d p)) axis .low ≤ℤ endsOn (boxOf (d .shapes) (shapeAt d p)) axis .high
-    rising axis = go (eqb axis 0) (eqb axis 1)
-      where
-        on : (a : ℕ) → leastTo (countAt d p) (onAxis (d .shapes) (shapeAt d p) a) ≤ℤ greatestTo (countAt d p) (onAxis (d .shapes) (shapeAt d p) a)
-        on a = let f = onAxis (d .shapes) (shapeAt d p) a in ≤ℤ-trans (least-bound f (countAt d p) 0 some) (greatest-bound f (countAt d p) 0 some)
-
-        go : (u v : Bool)
-            → cond u (boxOf (d .shapes) (shapeAt d p) .x) (cond v (boxOf (d .shapes) (shapeAt d p) .y) (boxOf (d .shapes) (shapeAt d p) .z)) .low
-            ≤ℤ cond u (boxOf (d .shapes) (shapeAt d p) .x) (cond v (boxOf (d .shapes) (shapeAt d p) .y) (boxOf (d .shapes) (shapeAt d p) .z)) .high
-        go true v = on 0
-        go false true = on 1
-        go false false = on 2
-
     pub ends-in : (axis : ℕ) → endsIn boxes (d .places) axis p ≡ endsOf d axis p
-    unfolding placedAt turnedAt
     ends-in axis =
-        let k = signedAxis (turnAt d p) axis in
-        let o = offsetAt d p axis in
-        ap (λ (c : ShapeBox). between (along k (c .x .low) (c .y .low) (c .z .low) +ℤ o) (along k (c .x .high) (c .y .high) (c .z .high) +ℤ o)) box-is
-        ∙ corners-turned (boxOf (d .shapes) (shapeAt d p)) k o (rising (axisNumber (natAbs k)))
+        ap (λ (c : ShapeBox). movedBy (endsAlong c (signedAxis (turnAt d p) axis)) (offsetAt d p axis)) box-is
         ∙ sym (ends-turned d p axis some)
 
     pub asked : EndsAsked boxes (d .places) p
@@ -121,23 +99,16 @@ module _ (boxes places : List ℤ) (axis : ℕ) where
   pub key-high : (p : ℕ) → takenIn places p ≡ true → keyFor (endsIn boxes places axis p .high) (2 * p + 1) ≡ keyIn boxes places axis (2 * p + 1)
   key-high p e = key-side p (2 * p + 1) false (omega arith) (ne-eqb ((2 * p + 1) % 2) 0 (λ z. omega arith)) e
 
-  -- the ends are those of two placed corners, so they are near
+  -- the ends are those of a near box, moved by a near offset
   pub placed-ends : {p : ℕ} → EndsAsked boxes places p → axis < 3
       → Within Limits.placedReach (endsIn boxes places axis p .low) × Within Limits.placedReach (endsIn boxes places axis p .high)
   placed-ends {p} a h =
-      either-way
-      (placed-within (natAbs (turnIn places p)) axis (a .near .x .low) (a .near .y .low) (a .near .z .low) (a .offset axis h))
-      (placed-within (natAbs (turnIn places p)) axis (a .near .x .high) (a .near .y .high) (a .near .z .high) (a .offset axis h))
-    where
-      either-way : {u v : ℤ} → Within Limits.placedReach u → Within Limits.placedReach v → Within Limits.placedReach (between u v .low) × Within Limits.placedReach (between u v .high)
-      either-way {u} {v} wu wv = go (ltZ u v)
-        where
-          go : (t : Bool) → let e : Ends = cond t (record { low = u; high = v }) (record { low = v; high = u }) in Within Limits.placedReach (e .low) × Within Limits.placedReach (e .high)
-          go true = (wu, wv)
-          go false = (wv, wu)
+      let n = near-along (a .near) (signedAxis (natAbs (turnIn places p)) axis) in
+      let o = a .offset axis h in
+      (moved-near (n .low) o, moved-near (n .high) o)
 
 -- two keys more of the list
-pub keys-two : (f : ℕ → ℕ) (keys : List ℕ) (p : ℕ) {a b : ℕ} → 2 * p + 1 < length keys → ((k : ℕ) → k < 2 * p → getD keys k 0 ≡ f k) → a ≡ f (2 * p) → b ≡ f (2 * p + 1)
+keys-two : (f : ℕ → ℕ) (keys : List ℕ) (p : ℕ) {a b : ℕ} → 2 * p + 1 < length keys → ((k : ℕ) → k < 2 * p → getD keys k 0 ≡ f k) → a ≡ f (2 * p) → b ≡ f (2 * p + 1)
     → (k : ℕ) → k < 2 * (p + 1) → getD (set (set keys (2 * p) a) (2 * p + 1) b) k 0 ≡ f k
 keys-two f keys p {a} {b} l h ea eb k m =
     below-more (λ j. getD (set (set keys (2 * p) a) (2 * p + 1) b) j 0 ≡ f j) (2 * p + 1)
@@ -150,6 +121,21 @@ keys-two f keys p {a} {b} l h ea eb k m =
     first = below-more (λ j. getD (set keys (2 * p) a) j 0 ≡ f j) (2 * p)
         (λ j n. getD-set-other keys (2 * p) j a 0 (λ q. omega arith) ∙ h j n)
         (getD-set-same keys (2 * p) a 0 (omega arith) ∙ ea)
+
+-- ---- the keys of the first places: of none, of one more, of all
+module _ {boxes places : List ℤ} {axis : ℕ} {keys : List ℕ} where
+  pub keys-none : length keys ≡ Limits.axisMarks → KeysTo boxes places axis 0 keys
+  keys-none e = record { long = e; is = λ k h. absurd (omega arith) }
+
+  pub keys-more : {p low high : ℕ} → p < Limits.places → KeysTo boxes places axis p keys → low ≡ keyIn boxes places axis (2 * p) → high ≡ keyIn boxes places axis (2 * p + 1)
+      → KeysTo boxes places axis (p + 1) (set (set keys (2 * p) low) (2 * p + 1) high)
+  keys-more {p} {low} {high} h t el eh = record {
+    long = length-set (set keys (2 * p) low) (2 * p + 1) high ∙ length-set keys (2 * p) low ∙ t .long;
+    is = keys-two (keyIn boxes places axis) keys p (omega (arith, t .long)) (t .is) el eh;
+  }
+
+  pub keys-all : {p : ℕ} → Limits.places ≤ p → KeysTo boxes places axis p keys → KeysIn boxes places axis keys
+  keys-all h t = record { long = t .long; is = λ mark l. t .is mark (omega arith) }
 
 -- the keys of an axis are one list
 pub keys-once : {boxes places : List ℤ} {axis : ℕ} {k l : List ℕ} → KeysIn boxes places axis k → KeysIn boxes places axis l → k ≡ l

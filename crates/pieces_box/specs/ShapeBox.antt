@@ -11,7 +11,7 @@ use lib.Signed.{ltZ}
 use Rattle.limits.specs.Limits
 use Rattle.limits.specs.Numbered.{Numbered}
 use Rattle.ints.specs.Bounds.{Within}
-use Rattle.turns.specs.Turns.{placedAt}
+use Rattle.turns.specs.Turns.{axisNumber, signedAxis}
 use Rattle.marks.specs.Keys.{keyFor, noKey}
 use Rattle.pieces.specs.Pieces.{Taken, takenIn, countIn, heldIn, turnIn, lesser, greater, leastTo, greatestTo}
 use Rattle.pieces_box.specs.declared.boxes.Ends.{Ends}
@@ -44,10 +44,6 @@ boxFrom x y z = record { x = endsFrom x; y = endsFrom y; z = endsFrom z }
 
 abbrev pub widened : ShapeBox → ℤ → ℤ → ℤ → ShapeBox
 widened b x y z = record { x = stretched (b .x) x; y = stretched (b .y) y; z = stretched (b .z) z }
-
--- axis 1, 2 or 3, counted from 0
-abbrev pub axisNumber : ℕ → ℕ
-axisNumber n = cond (eqb n 1) 0 (cond (eqb n 2) 1 2)
 
 -- the ends on axis 0, 1 or 2, and along a signed axis: negated and exchanged where it is less than 0
 abbrev pub endsOn : ShapeBox → ℕ → Ends
@@ -87,20 +83,12 @@ BoxAt shapes s b = Numbered (Limits.corners + 1) (countIn shapes s) → (natAbs 
 pub record Boxed (shapes boxes : List ℤ) : Type 0 where
   pub is : (s : ℕ) → s < Limits.shapes → BoxAt shapes s (boxIn boxes s)
 
--- the ends of two numbers, whichever is the less
-abbrev pub between : ℤ → ℤ → Ends
-between u v = cond (ltZ u v) (record { low = u; high = v }) (record { low = v; high = u })
-
--- the ends of the piece at a place, out of the boxes and the placements alone: a turn sends two opposite corners of the box to two of the turned one
+-- the ends of the piece at a place, out of the boxes and the placements alone: those of the box along the axis that the turn puts there, moved by the offset
 abbrev pub boxHeld : List ℤ → List ℤ → ℕ → ShapeBox
 boxHeld boxes places p = boxIn boxes (natAbs (heldIn places p) - 1)
 
 abbrev pub endsIn : List ℤ → List ℤ → ℕ → ℕ → Ends
-endsIn boxes places axis p =
-    let b = boxHeld boxes places p in
-    let t = natAbs (turnIn places p) in
-    let o = getD places (Limits.placeCells * p + 2 + axis) (pos 0) in
-    between (placedAt t axis (b .x .low) (b .y .low) (b .z .low) o) (placedAt t axis (b .x .high) (b .y .high) (b .z .high) o)
+endsIn boxes places axis p = movedBy (endsAlong (boxHeld boxes places p) (signedAxis (natAbs (turnIn places p)) axis)) (getD places (Limits.placeCells * p + 2 + axis) (pos 0))
 
 -- what is asked of them: numbers in range
 pub record NearEnds (e : Ends) : Type 0 where
@@ -133,3 +121,8 @@ keyIn boxes places axis mark =
 pub record KeysIn (boxes places : List ℤ) (axis : ℕ) (keys : List ℕ) : Type 0 where
   pub long : length keys ≡ Limits.axisMarks
   pub is : (mark : ℕ) → mark < Limits.axisMarks → getD keys mark 0 ≡ keyIn boxes places axis mark
+
+-- the same of the marks of the first so many places
+pub record KeysTo (boxes places : List ℤ) (axis n : ℕ) (keys : List ℕ) : Type 0 where
+  pub long : length keys ≡ Limits.axisMarks
+  pub is : (mark : ℕ) → mark < 2 * n → getD keys mark 0 ≡ keyIn boxes places axis mark

@@ -1,28 +1,39 @@
-// The keys of all marks of one axis, from the boxes of the shapes: what the order test and the reordering compare.
-// A piece's ends are its shape's box, turned and moved: two opposite corners of it are placed, and no corner of the shape.
+// The keys of all marks, from the boxes of the shapes: what the order test and the reordering compare.
+// A piece's ends are its shape's box, turned and moved: a turn only swaps or negates axes, and no corner of the shape is looked at.
 ghost use mathlib.Core.Path.{_≡_};
 ghost use Prim.Native.Nat.{_<_, _+_, _*_};
-ghost use lib.ListN.{length};
+ghost use lib.ListN.{length, set};
 ghost use Rattle.limits.specs.Limits;
-ghost use Rattle.pieces_box.specs.ShapeBox.{between, endsIn, EndsAsked, AllAsked, keyIn, KeysIn};
+ghost use Rattle.pieces_box.specs.ShapeBox.{boxIn, endsAlong, endsIn, NearBox, EndsAsked, AllAsked, keyIn, KeysIn};
+use crate::boxes::BOX_CELLS;
 use crate::boxes::BOXES;
 use crate::boxes::Ends;
-use crate::boxes::box_in;
 use marks::MarkKeys;
 use marks::NO_KEY;
 use marks::mark_key;
 use pieces::index::index_of;
 use pieces::taking::is_taken;
-use turns::placed_axis;
+use turns::axis_number;
+use turns::signed_axis;
 
-// The ends of two numbers, whichever is the less.
-fn between(u: i32, v: i32) -> Ends
-    ensures { λ r. ⌜ r ≡ between u v ⌝ }
+// The ends of a shape's box along a signed axis: negated and exchanged where it is less than 0.
+fn ends_along(boxes: &[i32; BOXES], shape: usize, k: i8) -> Ends
+    requires { ⌜ (shape < Limits.shapes) × NearBox (boxIn (now boxes) shape) ⌝ }
+    ensures { λ r. ⌜ r ≡ endsAlong (boxIn (now (boxes .entry)) shape) k ⌝ }
 {
-    if u < v {
-        return Ends { low: u, high: v };
+    let at = BOX_CELLS * shape + 2 * axis_number(k);
+    let low = boxes[at];
+    let high = boxes[at + 1];
+    if k < 0 {
+        return Ends {
+            low: -high,
+            high: -low,
+        };
     }
-    Ends { low: v, high: u }
+    Ends {
+        low: low,
+        high: high,
+    }
 }
 
 // The ends of the piece at a taken place.
@@ -37,20 +48,14 @@ fn ends_in(
 {
     let held = index_of(places[limits::PLACE_CELLS * place], limits::SHAPES + 1);
     let turn = index_of(places[limits::PLACE_CELLS * place + 1], limits::TURNS);
-    let b = box_in(boxes, held - 1);
-    let on_x = b.x;
-    let on_y = b.y;
-    let on_z = b.z;
     let offset = places[limits::PLACE_CELLS * place + 2 + axis];
-    let x_low = on_x.low;
-    let x_high = on_x.high;
-    let y_low = on_y.low;
-    let y_high = on_y.high;
-    let z_low = on_z.low;
-    let z_high = on_z.high;
-    let u = placed_axis(turn, axis, x_low, y_low, z_low, offset);
-    let v = placed_axis(turn, axis, x_high, y_high, z_high, offset);
-    between(u, v)
+    let e = ends_along(boxes, held - 1, signed_axis(turn, axis));
+    let low = e.low;
+    let high = e.high;
+    Ends {
+        low: low + offset,
+        high: high + offset,
+    }
 }
 
 // The keys of a place's two marks, above every other where it is empty.
@@ -94,24 +99,38 @@ fn sized_keys(keys: &[u32; limits::AXIS_MARKS]) -> usize
     all.len()
 }
 
-// The keys of one axis, whatever the array held.
+// A place's two keys stored.
+fn put_two(keys: &mut [u32; limits::AXIS_MARKS], place: usize, k: MarkKeys)
+    requires { ⌜ place < Limits.places ⌝ }
+    ensures { λ _. ⌜ now (keys .exit) ≡ set (set (now (keys .entry)) (2 * place) (k .low)) (2 * place + 1) (k .high) ⌝ }
+{
+    let low = k.low;
+    let high = k.high;
+    keys[2 * place] = low;
+    keys[2 * place + 1] = high;
+}
+
+// The keys of the three axes, whatever the arrays held: each place is visited once.
 pub fn put_keys(
     boxes: &[i32; BOXES],
     places: &[i32; limits::PLACES_LENGTH],
-    axis: usize,
-    keys: &mut [u32; limits::AXIS_MARKS],
+    x: &mut [u32; limits::AXIS_MARKS],
+    y: &mut [u32; limits::AXIS_MARKS],
+    z: &mut [u32; limits::AXIS_MARKS],
 )
-    requires { ⌜ AllAsked (now boxes) (now places) × (axis < 3) ⌝ }
-    ensures { λ _. ⌜ KeysIn (now (boxes .entry)) (now (places .entry)) axis (now (keys .exit)) ⌝ }
+    requires { ⌜ AllAsked (now boxes) (now places) ⌝ }
+    ensures x { λ _. ⌜ KeysIn (now (boxes .entry)) (now (places .entry)) 0 (now (x .exit)) ⌝ }
+    ensures y { λ _. ⌜ KeysIn (now (boxes .entry)) (now (places .entry)) 1 (now (y .exit)) ⌝ }
+    ensures z { λ _. ⌜ KeysIn (now (boxes .entry)) (now (places .entry)) 2 (now (z .exit)) ⌝ }
 {
-    sized_keys(keys);
+    sized_keys(x);
+    sized_keys(y);
+    sized_keys(z);
     let mut place = 0;
     while place < limits::PLACES {
-        let k = keys_at(boxes, places, place, axis);
-        let low = k.low;
-        let high = k.high;
-        keys[2 * place] = low;
-        keys[2 * place + 1] = high;
+        put_two(x, place, keys_at(boxes, places, place, 0));
+        put_two(y, place, keys_at(boxes, places, place, 1));
+        put_two(z, place, keys_at(boxes, places, place, 2));
         place += 1;
     }
 }

@@ -17,7 +17,7 @@ use Rattle.pieces.specs.Pieces.{heldIn, Taken, takenIn}
 use Rattle.pieces.specs.Taking.{by-taken}
 use Rattle.rows.specs.Rows.{PairOf, cell, rowAt, RowsInOrder}
 use Rattle.ints.specs.Counts.{oneIf, sumTo, countOf, sum-add, sum-same}
-use Rattle.rows_tally.specs.Tallies.{BookInOrder, oneIfTaken, takenPlaces}
+use Rattle.rows_tally.specs.Tallies.{BookInOrder, oneIfTaken, takenPlaces, pairsOf}
 use Rattle.rows.specs.Cells.{getD-within}
 use Rattle.ints.specs.Cases.{by-same, by-less}
 use Rattle.rows_tally.specs.Counting.{count-more}
@@ -27,6 +27,12 @@ sum-times : (a : ℕ) (f : ℕ → ℕ) (n : ℕ) → sumTo n (λ k. a * f k) �
 unfolding sumTo
 sum-times a f zero = sym (mul-zero a)
 sum-times a f (suc n) = ap (λ (s : ℕ). a * f n + s) (sum-times a f n) ∙ sym (mul-add a (f n) (sumTo n f))
+
+-- the first m terms, and the next, are a part of the sum of n
+pub sum-part : (n : ℕ) (f : ℕ → ℕ) (m : ℕ) → m < n → f m + sumTo m f ≤ sumTo n f
+unfolding sumTo
+sum-part zero f m h = absurd (omega arith)
+sum-part (suc n) f m h = by-less m n (λ l. omega (arith, sum-part n f m l)) (λ l. let e : m ≡ n = omega arith in rw e (omega arith))
 
 sum-split : (f : ℕ → ℕ) (a b : ℕ) → sumTo (a + b) f ≡ sumTo a f + sumTo b (λ j. f (a + j))
 unfolding sumTo
@@ -170,29 +176,32 @@ bit-of places p = go (takenIn places p)
     go true = inr refl
     go false = inl refl
 
--- the sum of the tallies is the number of cells that hold a verdict, which is the number of pairs
-module _ {places : List ℤ} {rows book : List ℕ} (o : RowsInOrder places rows) (b : BookInOrder rows book) where
-  tallied : sumTo Limits.tallies (λ v. getD book v 0) ≡ sumTo Limits.rows (λ k. oneIf (ltb (getD rows k 0) Limits.tallies))
-  tallied =
-      sum-same Limits.tallies (λ v. getD book v 0) (λ v. countOf v rows) (λ v h. b .counts v h)
-      ∙ ap (λ (r : List ℕ). sumTo Limits.tallies (λ v. countOf v r)) (sym (take-all (length rows) rows (omega arith)))
+-- the counts of the verdicts together are the number of cells that hold one, which is the number of pairs
+module _ {places : List ℤ} {rows : List ℕ} (o : RowsInOrder places rows) where
+  counted : sumTo Limits.tallies (λ v. countOf v rows) ≡ sumTo Limits.rows (λ k. oneIf (ltb (getD rows k 0) Limits.tallies))
+  counted =
+      ap (λ (r : List ℕ). sumTo Limits.tallies (λ v. countOf v r)) (sym (take-all (length rows) rows (omega arith)))
       ∙ counts-below rows Limits.tallies (length rows) (omega arith)
       ∙ ap (λ (n : ℕ). sumTo n (λ k. oneIf (ltb (getD rows k 0) Limits.tallies))) (o .size)
 
-  by-lines : sumTo Limits.tallies (λ v. getD book v 0) ≡ sumTo Limits.places (λ i. oneIfTaken places i * above (oneIfTaken places) i Limits.places)
+  by-lines : sumTo Limits.tallies (λ v. countOf v rows) ≡ sumTo Limits.places (λ i. oneIfTaken places i * above (oneIfTaken places) i Limits.places)
   by-lines =
-      tallied
+      counted
       ∙ sum-lines (λ k. oneIf (ltb (getD rows k 0) Limits.tallies)) Limits.places Limits.places
       ∙ sum-same Limits.places (λ i. sumTo Limits.places (λ j. oneIf (ltb (getD rows (cell i j) 0) Limits.tallies))) (λ i. oneIfTaken places i * above (oneIfTaken places) i Limits.places)
       (λ i h.
       sum-same Limits.places (λ j. oneIf (ltb (getD rows (cell i j) 0) Limits.tallies)) (λ j. oneIfTaken places i * (oneIf (ltb i j) * oneIfTaken places j)) (λ j k. cell-worth places rows o i j h k)
       ∙ sum-times (oneIfTaken places i) (λ j. oneIf (ltb i j) * oneIfTaken places j) Limits.places)
 
-  pub tallies-add-up : sumTo Limits.tallies (λ v. getD book v 0) ≡ takenPlaces places * (takenPlaces places - 1) / 2
-  tallies-add-up =
+  pub counts-add-up : sumTo Limits.tallies (λ v. countOf v rows) ≡ pairsOf places
+  counts-add-up =
       let s = sumTo Limits.places (λ i. oneIfTaken places i * above (oneIfTaken places) i Limits.places) in
       let e : 2 * s ≡ takenPlaces places * (takenPlaces places - 1) =
       halved s (takenPlaces places)
       (lines (oneIfTaken places) (λ i. above (oneIfTaken places) i Limits.places) (takenPlaces places) Limits.places (λ k h. bit-of places k)
       (λ k h. above-rest (oneIfTaken places) k Limits.places h)) in
       by-lines ∙ omega arith
+
+  -- so do the tallies
+  pub tallies-add-up : {book : List ℕ} → BookInOrder rows book → sumTo Limits.tallies (λ v. getD book v 0) ≡ pairsOf places
+  tallies-add-up {book} b = sum-same Limits.tallies (λ v. getD book v 0) (λ v. countOf v rows) (λ v h. b .counts v h) ∙ counts-add-up

@@ -1,6 +1,6 @@
 -- The tallies of a desk, in the words of document 01, "Rows": how many rows hold each verdict, and how many places are taken; and W6's gap beside them.
 -- The first four cells of the book are the tallies of the verdicts 0 to 3, and `Limits.gapCell` has the gap.
-use Prim.Native.Nat.{ℕ, _+_, _≤_}
+use Prim.Native.Nat.{ℕ, _+_, _-_, _*_, _/_, _≤_}
 use mathlib.Core.Path.{_≡_}
 use mathlib.Core.List.{List}
 use lib.Dec.{eqb}
@@ -43,3 +43,7 @@ oneIfTaken places p = oneIf (takenIn places p)
 
 abbrev pub takenPlaces : List ℤ → ℕ
 takenPlaces places = sumTo Limits.places (oneIfTaken places)
+
+-- "n(n−1)/2"
+abbrev pub pairsOf : List ℤ → ℕ
+pairsOf places = takenPlaces places * (takenPlaces places - 1) / 2

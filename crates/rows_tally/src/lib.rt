@@ -1,14 +1,15 @@
 // The tallies of a desk as a lent array, its book (document 01, "Rows"): whether they count the rows, counted afresh, and followed as rows change.
 // A verdict is counted in the cell of its number; the gap of W6 has a cell of its own, and the rest of the book is 0.
 ghost use mathlib.Core.Path.{_≡_};
-ghost use Prim.Native.Nat.{_+_, _<_};
+ghost use Prim.Native.Nat.{_+_, _≤_, _<_};
 ghost use lib.Dec.{eqb};
 ghost use lib.ListN.{length, take};
 ghost use Rattle.limits.specs.Limits;
 ghost use Rattle.limits.specs.Decides.{Decides};
-ghost use Rattle.ints.specs.Counts.{oneIf, countOf};
-ghost use Rattle.rows.specs.Rows.{cell};
-ghost use Rattle.rows_tally.specs.Tallies.{BookInOrder, gapIn, gapPut};
+ghost use Rattle.ints.specs.Counts.{oneIf, sumTo, countOf};
+ghost use Rattle.rows.specs.Rows.{cell, RowsInOrder};
+ghost use Rattle.rows_tally.specs.Tallies.{BookInOrder, gapIn, gapPut, oneIfTaken, takenPlaces, pairsOf};
+use pieces::taking::is_taken;
 use rows::sized_rows;
 
 mod changes;
@@ -32,8 +33,13 @@ pub fn put_gap(book: &mut [u32; limits::BOOK], gap: u32)
     book[limits::GAP_CELL] = gap;
 }
 
-// Whether the tallies count the rows, the gap is in range, and the rest of the book is 0.
-pub fn book_in_order(rows: &[u8; limits::ROWS], book: &[u32; limits::BOOK]) -> bool
+// Whether the tallies count the rows, the gap is in range, and the rest of the book is 0. The rows are in order, so that the taken places tell how many there are to count.
+pub fn book_in_order(
+    places: &[i32; limits::PLACES_LENGTH],
+    rows: &[u8; limits::ROWS],
+    book: &[u32; limits::BOOK],
+) -> bool
+    requires { ⌜ RowsInOrder (now places) (now rows) ⌝ }
     ensures { λ r. ⌜ Decides r (BookInOrder (now (rows .entry)) (now (book .entry))) ⌝ }
 {
     let gap = gap_of(book);
@@ -41,7 +47,7 @@ pub fn book_in_order(rows: &[u8; limits::ROWS], book: &[u32; limits::BOOK]) -> b
         return false;
     }
     let mut right = [0u32; limits::BOOK];
-    recount(rows, &mut right);
+    recount(rows, pairs_of(places), &mut right);
     put_gap(&mut right, gap);
     same_book(book, &right)
 }
@@ -62,17 +68,61 @@ fn same_book(a: &[u32; limits::BOOK], b: &[u32; limits::BOOK]) -> bool
     true
 }
 
-// The tallies counted afresh, and no gap, whatever the book held.
-fn recount(rows: &[u8; limits::ROWS], book: &mut [u32; limits::BOOK])
+// How many pairs the taken places make.
+fn pairs_of(places: &[i32; limits::PLACES_LENGTH]) -> u32
+    ensures { λ r. ⌜ r ≡ pairsOf (now (places .entry)) ⌝ }
+{
+    let n = taken_places(places);
+    if n == 0 {
+        return 0;
+    }
+    n * (n - 1) / 2
+}
+
+fn taken_places(places: &[i32; limits::PLACES_LENGTH]) -> u32
+    ensures { λ r. ⌜ (r ≡ takenPlaces (now (places .entry))) × (r ≤ Limits.places) ⌝ }
+{
+    let mut n: u32 = 0;
+    let mut place: usize = 0;
+    while place < limits::PLACES {
+        n += one_if_taken(places, place);
+        place += 1;
+    }
+    n
+}
+
+fn one_if_taken(places: &[i32; limits::PLACES_LENGTH], place: usize) -> u32
+    requires { ⌜ place < Limits.places ⌝ }
+    ensures { λ r. ⌜ r ≡ oneIfTaken (now (places .entry)) place ⌝ }
+{
+    if is_taken(places, place) { 1 } else { 0 }
+}
+
+// The tallies counted afresh, and no gap, whatever the book held; so many rows hold a verdict.
+fn recount(rows: &[u8; limits::ROWS], many: u32, book: &mut [u32; limits::BOOK])
+    requires { ⌜ many ≡ sumTo Limits.tallies (λ v. countOf v (now rows)) ⌝ }
     ensures { λ _. ⌜ BookInOrder (now (rows .entry)) (now (book .exit)) ⌝ }
 {
     *book = [0u32; limits::BOOK];
+    let mut left = many;
     let mut verdict: usize = 0;
     while verdict < limits::TALLIES {
-        let n = tally_of(rows, verdict as u8);
+        let n = tally_left(rows, verdict as u8, left);
         book[verdict] = n;
+        left -= n;
         verdict += 1;
     }
+}
+
+// How many rows hold a verdict, where so many are left to be counted: no line is gone through for none.
+fn tally_left(rows: &[u8; limits::ROWS], verdict: u8, left: u32) -> u32
+    requires { ⌜ countOf verdict (now rows) ≤ left ⌝ }
+    ensures { λ r. ⌜ r ≡ countOf verdict (now (rows .entry)) ⌝ }
+{
+    if left == 0 {
+        return 0;
+    }
+    tally_of(rows, verdict)
 }
 
 // How many rows hold a verdict, added up line by line.

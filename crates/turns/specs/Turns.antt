@@ -67,6 +67,10 @@ turnOf turn = times (getD (tableRows (turn / 4)) (turn % 4) none) (getD permutat
 unfoldable pub signedAxis : ℕ → ℕ → ℤ
 signedAxis turn axis = cond (eqb axis 0) (turnOf turn .x) (cond (eqb axis 1) (turnOf turn .y) (turnOf turn .z))
 
+-- axis 1, 2 or 3, counted from 0
+abbrev pub axisNumber : ℕ → ℕ
+axisNumber n = cond (eqb n 1) 0 (cond (eqb n 2) 1 2)
+
 -- the coordinate along axis 1, 2 or 3, and along a signed axis
 abbrev pub namedAxis : ℕ → ℤ → ℤ → ℤ → ℤ
 namedAxis n x y z = cond (eqb n 1) x (cond (eqb n 2) y z)

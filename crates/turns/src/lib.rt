@@ -5,7 +5,7 @@ ghost use Prim.Native.Nat.{_<_};
 ghost use lib.IntN.{natAbs};
 ghost use Rattle.limits.specs.Limits;
 ghost use Rattle.ints.specs.Bounds.{Within};
-ghost use Rattle.turns.specs.Turns.{turnOf, signedAxis, namedAxis, along, turnedAt, placedAt, Turnable};
+ghost use Rattle.turns.specs.Turns.{turnOf, signedAxis, namedAxis, axisNumber, along, turnedAt, placedAt, Turnable};
 
 // A signed permutation: 1, 2 or 3 for the x, y or z that each coordinate is taken from, less than 0 where it is negated.
 pub struct Turn {
@@ -63,7 +63,7 @@ fn turn_at(turn: usize) -> Turn
 }
 
 // Which signed axis a turn puts on an axis.
-fn signed_axis(turn: usize, axis: usize) -> i8
+pub fn signed_axis(turn: usize, axis: usize) -> i8
     requires { ⌜ turn < Limits.turns ⌝ }
     ensures { λ r. ⌜ r ≡ signedAxis turn axis ⌝ }
 {
@@ -88,6 +88,19 @@ fn axis_of(k: i8, x: i32, y: i32, z: i32) -> i32
         return y;
     }
     z
+}
+
+// The number of the axis that a signed axis names, counted from 0.
+pub fn axis_number(k: i8) -> usize
+    ensures { λ r. ⌜ r ≡ axisNumber (natAbs k) ⌝ }
+{
+    if k == 1 || k == -1 {
+        return 0;
+    }
+    if k == 2 || k == -2 {
+        return 1;
+    }
+    2
 }
 
 // The coordinate along a signed axis.

@@ -22,29 +22,18 @@ returns c = (fails refl (λ o. unless-taken (c .before .pieces-in-order .ensures
 
 put-keys-requires : tie.Need-put-keys-requires
 put-keys-requires c κs =
-    let e = c .before in
-    (all-asked (order e) (e .before .before .before .pre), omega arith)
-
-put-keys-requires-2 : tie.Need-put-keys-requires-2
-put-keys-requires-2 c κs =
     let e = c .before .before .before in
-    (all-asked (order e) (e .before .before .before .pre), omega arith)
-
-put-keys-requires-3 : tie.Need-put-keys-requires-3
-put-keys-requires-3 c κs =
-    let e = c .before .before .before .before .before in
-    (all-asked (order e) (e .before .before .before .pre), omega arith)
+    all-asked (order e) (e .before .before .before .pre)
 
 rest-in-order-requires : tie.Need-rest-in-order-requires
 rest-in-order-requires c κs = search needs
 
 returns-2 : tie.Need-returns-2
 returns-2 c =
-    let z = c .before .before .before .before in
-    let y = z .before .before in
-    let x = y .before .before in
-    let e = x .before .before in
-    let w = worked (order e) (e .before .before .before .pre) (x .put-keys .ensures) (y .put-keys2 .ensures) (z .put-keys3 .ensures) in
+    let k = c .before .before .before .before in
+    let e = k .before .before .before .before in
+    let h = k .put-keys .ensures in
+    let w = worked (order e) (e .before .before .before .pre) (h .0) (h .1 .0) (h .1 .1) in
     (order-decided (order e) w (c .rest-in-order .ensures), λ _. w)
 
 pub desk-tested-spec : {M : Type 1} → statement M
@@ -54,7 +43,5 @@ desk-tested-spec =
     pieces-in-order-requires
     returns
     put-keys-requires
-    put-keys-requires-2
-    put-keys-requires-3
     rest-in-order-requires
     returns-2)

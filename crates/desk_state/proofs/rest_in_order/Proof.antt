@@ -20,7 +20,7 @@ returns-2 : tie.Need-returns-2
 returns-2 c = rest-by-rows (unless-taken (c .before .rows-in-order .ensures) (c .if2 .taken))
 
 book-in-order-requires : tie.Need-book-in-order-requires
-book-in-order-requires c κs = search needs
+book-in-order-requires c κs = unless-left (c .before .rows-in-order .ensures) (c .if2 .left)
 
 returns-3 : tie.Need-returns-3
 returns-3 c =

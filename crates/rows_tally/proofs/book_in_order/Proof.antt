@@ -7,6 +7,7 @@ use native.Mathlib.Omega.{arith}
 use borrow.Author.Needs.{needs}
 use Rattle.limits.specs.DecidesLaws.{fails}
 use Rattle.rows_tally.specs.Counting.{book-once, gap-order, gap-is}
+use Rattle.rows_tally.specs.Sums.{counts-add-up}
 use Rattle.rows_tally.specs.Tallies.{BookInOrder, gapIn}
 use Rattle.rows_tally.proofs.book_in_order.Statement.{statement}
 use Rattle.rows_tally.proofs.book_in_order.Tie as tie
@@ -22,8 +23,11 @@ returns c =
     let e = c .before .gap-of .ensures in
     fails refl (λ b. let g = b .gap in let k = c .if1 .taken in omega arith)
 
+pairs-of-requires : tie.Need-pairs-of-requires
+pairs-of-requires c κs = search needs
+
 recount-requires : tie.Need-recount-requires
-recount-requires c κs = search needs
+recount-requires c κs = c .before .pairs-of .ensures ∙ sym (counts-add-up (c .before .before .before .before .pre))
 
 put-gap-requires : tie.Need-put-gap-requires
 put-gap-requires c κs = search needs
@@ -36,7 +40,7 @@ returns-2 c =
     let d = c .same-book .ensures in
     let p = c .before .before in
     let r = p .before .before in
-    let e = r .before .before in
+    let e = r .before .before .before in
     let g = e .before .gap-of .ensures in
     let rows = e .before .before .args .rows .now in
     let none = r .recount .ensures in
@@ -50,4 +54,4 @@ returns-2 c =
 pub book-in-order-spec : {M : Type 1} → statement M
 book-in-order-spec =
     tie.close
-    (tie.spec gap-of-requires cast-if1 returns recount-requires put-gap-requires same-book-requires returns-2)
+    (tie.spec gap-of-requires cast-if1 returns pairs-of-requires recount-requires put-gap-requires same-book-requires returns-2)

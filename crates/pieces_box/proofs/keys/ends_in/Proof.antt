@@ -1,28 +1,31 @@
--- `pieces_box::keys::ends_in`: two opposite corners of the shape's box, turned and moved.
+-- `pieces_box::keys::ends_in`: the shape's box along the axis that the turn puts there, moved by the offset.
 -- The place's shape and turn are indices, since the placement is in range.
-use Prim.Native.Nat.{ℕ, _<_, _-_}
+use Prim.Native.Nat.{ℕ, _<_, _+_, _-_, _*_}
 use mathlib.Core.Path.{_≡_, sym, ap, ap₂, _∙_, subst}
 use native.Mathlib.Omega.{arith}
-use lib.IntN.{ℤ, natAbs}
-use mir.Syntax.{w32}
-use mir.Val.{toZ, ofZ}
+use lib.ListN.{getD}
+use lib.IntN.{ℤ, pos, natAbs, _+ℤ_}
+use mir.Syntax.{w8, w32}
+use mir.Val.{SFits, toZ, ofZ}
+use mir.ValLaws.{toZ-ofZ}
 use borrow.Author.Needs.{needs}
 use Rattle.limits.specs.Limits
-use Rattle.ints.specs.Bounds.{Within, worth, k-back, k-within}
-use Rattle.turns.specs.Turns.{placedAt}
+use Rattle.ints.specs.Bounds.{Within, known, fits, worth}
+use Rattle.turns.specs.Turns.{signedAxis}
 use Rattle.pieces.specs.IndexLaws.{cell-index}
 use Rattle.pieces.specs.Pieces.{heldIn, turnIn}
-use Rattle.pieces_box.specs.declared.boxes.ShapeBox.{ShapeBox}
-use Rattle.pieces_box.specs.ShapeBox.{between, boxIn, boxHeld, NearBox}
+use Rattle.pieces_box.specs.declared.boxes.Ends.{Ends}
+use Rattle.pieces_box.specs.ShapeBox.{boxIn, boxHeld, endsAlong, movedBy, NearBox, NearEnds}
+use Rattle.pieces_box.specs.NearLaws.{near-along}
+use Rattle.pieces_box.specs.TurnedLaws.{ends-eq}
 use Rattle.pieces_box.proofs.keys.ends_in.Statement.{statement}
 use Rattle.pieces_box.proofs.keys.ends_in.Tie as tie
 
--- a number in range comes back from its bits
-back : {v : ℤ} → Within Limits.shapeReach v → toZ w32 (ofZ w32 v) ≡ v
-back w = worth (k-back w32 _ (k-within w)) tt
+sum-fits : (v o : ℤ) → Within Limits.shapeReach v → Within Limits.shapeReach o → SFits w32 (toZ w32 (ofZ w32 v) +ℤ toZ w32 (ofZ w32 o))
+sum-fits v o h k = fits (search known depth 15) tt
 
-placed-same : (axis : ℕ) {t t′ : ℕ} {x x′ y y′ z z′ o o′ : ℤ} → t ≡ t′ → x ≡ x′ → y ≡ y′ → z ≡ z′ → o ≡ o′ → placedAt t axis x y z o ≡ placedAt t′ axis x′ y′ z′ o′
-placed-same axis et ex ey ez eo = λ i. placedAt (et i) axis (ex i) (ey i) (ez i) (eo i)
+sum : (v o : ℤ) → Within Limits.shapeReach v → Within Limits.shapeReach o → toZ w32 (ofZ w32 (toZ w32 (ofZ w32 v) +ℤ toZ w32 (ofZ w32 o))) ≡ v +ℤ o
+sum v o h k = worth (search known depth 25) tt
 
 held-is : (c : tie.After-index-of) → c .index-of .result ≡ natAbs (heldIn (c .before .before .args .places .now) (c .before .before .args .place))
 held-is c = cell-index (record { sfits = c .before .index-of-arg .given }) (c .index-of .ensures) (c .before .before .pre .0 .shape)
@@ -30,11 +33,27 @@ held-is c = cell-index (record { sfits = c .before .index-of-arg .given }) (c .i
 turn-is : (c : tie.After-index-of2) → c .index-of2 .result ≡ natAbs (turnIn (c .before .before .before .before .args .places .now) (c .before .before .before .before .args .place))
 turn-is c = cell-index (record { sfits = c .before .index-of-arg2 .given }) (c .index-of2 .ensures) (c .before .before .before .before .pre .0 .turn)
 
-box-is : (c : tie.After-box-in) → let s = c .before .before .before .before .before .args in c .box-in .result ≡ boxHeld (s .boxes .now) (s .places .now) (s .place)
-box-is c = c .box-in .ensures ∙ ap (λ (k : ℕ). boxIn (c .before .before .before .before .before .args .boxes .now) (k - 1)) (held-is (c .before .before .before))
+-- the shape that is asked for
+shape-is : (c : tie.After-index-of) → let a = c .before .before .args in c .index-of .result - 1 ≡ natAbs (heldIn (a .places .now) (a .place)) - 1
+shape-is c = ap (λ (k : ℕ). k - 1) (held-is c)
 
-near : (c : tie.After-box-in) → NearBox (c .box-in .result)
-near c = subst NearBox (sym (box-is c)) (c .before .before .before .before .before .pre .0 .near)
+axis-is : (c : tie.After-signed-axis) → let a = c .before .before .before .before .before .before .args in
+    toZ w8 (ofZ w8 (c .signed-axis .result)) ≡ signedAxis (natAbs (turnIn (a .places .now) (a .place))) (a .axis)
+axis-is c =
+    toZ-ofZ w8 (c .signed-axis .result) (record { sfits = c .signed-axis .ok }) ∙ c .signed-axis .ensures
+    ∙ ap (λ (t : ℕ). signedAxis t (c .before .before .before .before .before .before .args .axis)) (turn-is (c .before .before))
+
+along-is : (c : tie.After-ends-along) → let a = c .before .before .before .before .before .before .before .args in
+    c .ends-along .result ≡ endsAlong (boxHeld (a .boxes .now) (a .places .now) (a .place)) (signedAxis (natAbs (turnIn (a .places .now) (a .place))) (a .axis))
+along-is c =
+    c .ends-along .ensures
+    ∙ ap₂ (λ (s : ℕ) (k : ℤ). endsAlong (boxIn (c .before .before .before .before .before .before .before .args .boxes .now) s) k) (shape-is (c .before .before .before .before .before))
+    (axis-is (c .before))
+
+near : (c : tie.After-ends-along) → NearEnds (c .ends-along .result)
+near c =
+    let s = c .before .before .before .before .before .before .before in
+    subst NearEnds (sym (along-is c)) (near-along (s .pre .0 .near) (signedAxis (natAbs (turnIn (s .args .places .now) (s .args .place))) (s .args .axis)))
 
 mul-index-of : tie.Need-mul-index-of
 mul-index-of c = search needs
@@ -66,12 +85,6 @@ element-copy-out-index-of-2 c = search needs
 index-of-requires-2 : tie.Need-index-of-requires-2
 index-of-requires-2 c κs = search needs
 
-sub-box-in : tie.Need-sub-box-in
-sub-box-in c = omega (arith, held-is (c .before .before), c .before .before .before .before .pre .0 .some)
-
-box-in-requires : tie.Need-box-in-requires
-box-in-requires c κs = omega (arith, held-is (c .before .before), c .before .before .before .before .pre .0 .shape .below, c .before .before .before .before .pre .0 .some)
-
 mul-offset : tie.Need-mul-offset
 mul-offset c = search needs
 
@@ -87,57 +100,39 @@ mul-offset-2 c = search needs
 element-copy-out-offset : tie.Need-element-copy-out-offset
 element-copy-out-offset c = search needs
 
-placed-axis-requires : tie.Need-placed-axis-requires
-placed-axis-requires c κs =
-    let b = c .before .before .before .before .before .before .before .before .before .before in
-    let s = b .before .before .before .before .before in
-    let m = near b in
-    let o = s .pre .0 .offset (s .args .axis) (s .pre .1) in (
-      record {
-        turn< = subst (λ (t : ℕ). t < Limits.turns) (sym (turn-is (b .before))) (s .pre .0 .turn .below);
-        x-within = subst (Within Limits.shapeReach) (sym (back (m .x .low))) (m .x .low);
-        y-within = subst (Within Limits.shapeReach) (sym (back (m .y .low))) (m .y .low);
-        z-within = subst (Within Limits.shapeReach) (sym (back (m .z .low))) (m .z .low);
-      },
-      subst (Within Limits.shapeReach) (sym (back o)) o,
+sub-ends-along : tie.Need-sub-ends-along
+sub-ends-along c = omega (arith, held-is (c .before .before .before), c .before .before .before .before .before .pre .0 .some)
+
+signed-axis-requires : tie.Need-signed-axis-requires
+signed-axis-requires c κs = subst (λ (t : ℕ). t < Limits.turns) (sym (turn-is (c .before))) (c .before .before .before .before .before .pre .0 .turn .below)
+
+ends-along-requires : tie.Need-ends-along-requires
+ends-along-requires c κs =
+    let h = c .before .before .before .before in
+    let s = h .before .before in (
+      omega (arith, held-is h, s .pre .0 .shape .below, s .pre .0 .some),
+      subst (λ (k : ℕ). NearBox (boxIn (s .args .boxes .now) k)) (sym (shape-is h)) (s .pre .0 .near),
     )
 
-placed-axis-requires-2 : tie.Need-placed-axis-requires-2
-placed-axis-requires-2 c κs =
-    let b = c .before .before .before .before .before .before .before .before .before .before .before in
-    let s = b .before .before .before .before .before in
-    let m = near b in
-    let o = s .pre .0 .offset (s .args .axis) (s .pre .1) in (
-      record {
-        turn< = subst (λ (t : ℕ). t < Limits.turns) (sym (turn-is (b .before))) (s .pre .0 .turn .below);
-        x-within = subst (Within Limits.shapeReach) (sym (back (m .x .high))) (m .x .high);
-        y-within = subst (Within Limits.shapeReach) (sym (back (m .y .high))) (m .y .high);
-        z-within = subst (Within Limits.shapeReach) (sym (back (m .z .high))) (m .z .high);
-      },
-      subst (Within Limits.shapeReach) (sym (back o)) o,
-    )
+add-t15 : tie.Need-add-t15
+add-t15 c =
+    let d = c .before .before in
+    let s = d .before .before .before .before .before .before .before in
+    sum-fits _ _ (near d .low) (s .pre .0 .offset (s .args .axis) (s .pre .1))
 
-between-requires : tie.Need-between-requires
-between-requires c κs = search needs
+add-t23 : tie.Need-add-t23
+add-t23 c =
+    let d = c .before .before in
+    let s = d .before .before .before .before .before .before .before in
+    sum-fits _ _ (near d .high) (s .pre .0 .offset (s .args .axis) (s .pre .1))
 
 returns : tie.Need-returns
 returns c =
-    let b = c .before .before .before .before .before .before .before .before .before .before .before .before .before in
-    let s = b .before .before .before .before .before in
-    let m = near b in
-    let e = box-is b in
-    let t = turn-is (b .before) in
-    let o = back (s .pre .0 .offset (s .args .axis) (s .pre .1)) in
-    let u = c .before .before .placed-axis .ensures in
-    let v = c .before .placed-axis2 .ensures in
-    c .between .ensures
-    ∙ ap₂ between
-    (worth (k-back w32 _ (k-within (u .1))) tt ∙ u .0
-    ∙ placed-same (s .args .axis) t (back (m .x .low) ∙ ap (λ (q : ShapeBox). q .x .low) e) (back (m .y .low) ∙ ap (λ (q : ShapeBox). q .y .low) e)
-    (back (m .z .low) ∙ ap (λ (q : ShapeBox). q .z .low) e) o)
-    (worth (k-back w32 _ (k-within (v .1))) tt ∙ v .0
-    ∙ placed-same (s .args .axis) t (back (m .x .high) ∙ ap (λ (q : ShapeBox). q .x .high) e) (back (m .y .high) ∙ ap (λ (q : ShapeBox). q .y .high) e)
-    (back (m .z .high) ∙ ap (λ (q : ShapeBox). q .z .high) e) o)
+    let d = c .before .before in
+    let s = d .before .before .before .before .before .before .before in
+    let o = s .pre .0 .offset (s .args .axis) (s .pre .1) in
+    ends-eq (sum _ _ (near d .low) o) (sum _ _ (near d .high) o)
+    ∙ ap (λ (e : Ends). movedBy e (getD (s .args .places .now) (5 * s .args .place + 2 + s .args .axis) (pos 0))) (along-is d)
 
 pub ends-in-spec : {M : Type 1} → statement M
 ends-in-spec =
@@ -153,14 +148,14 @@ ends-in-spec =
     mul-index-of-4
     element-copy-out-index-of-2
     index-of-requires-2
-    sub-box-in
-    box-in-requires
     mul-offset
     add-offset
     add-offset-2
     mul-offset-2
     element-copy-out-offset
-    placed-axis-requires
-    placed-axis-requires-2
-    between-requires
+    sub-ends-along
+    signed-axis-requires
+    ends-along-requires
+    add-t15
+    add-t23
     returns)

@@ -1,52 +1,54 @@
--- `pieces_box::keys::put_keys`: the keys of every place before `place` are the axis's.
+-- `pieces_box::keys::put_keys`: on each axis the keys of every place before `place` are the axis's.
 -- The measure is how many places are left.
-use Prim.Native.Nat.{ℕ, _≤_, _<_, _+_, _*_, _-_}
-use mathlib.Core.Path.{_≡_, _∙_}
+use Prim.Native.Nat.{ℕ, _≤_, _+_, _-_}
+use mathlib.Core.Path.{sym, subst}
+use mathlib.Core.List.{List}
 use native.Mathlib.Omega.{arith}
-use lib.ListN.{length, getD, set, length-set}
 use Rattle.limits.specs.Limits
-use Rattle.pieces_box.specs.ShapeBox.{keyIn}
-use Rattle.pieces_box.specs.KeysLaws.{keys-two}
+use Rattle.pieces_box.specs.ShapeBox.{KeysTo}
+use Rattle.pieces_box.specs.KeysLaws.{keys-none, keys-more, keys-all}
 use borrow.Author.Needs.{needs}
 use Rattle.pieces_box.proofs.keys.put_keys.Statement.{statement}
 use Rattle.pieces_box.proofs.keys.put_keys.Tie as tie
 
 abbrev Inv-loop : tie.InvT-loop
-Inv-loop boxes places axis keys₀ place₀ keys place =
-    (place ≤ Limits.places) × (length keys ≡ Limits.axisMarks) × ((k : ℕ) → k < 2 * place → getD keys k 0 ≡ keyIn boxes places axis k)
+Inv-loop boxes places x₀ y₀ z₀ place₀ x y z place = (place ≤ Limits.places) × KeysTo boxes places 0 place x × KeysTo boxes places 1 place y × KeysTo boxes places 2 place z
 
 abbrev μ-loop : tie.MeasureT-loop
-μ-loop boxes places axis keys₀ place₀ keys place = Limits.places - place
+μ-loop boxes places x₀ y₀ z₀ place₀ x y z place = Limits.places - place
 
 sized-keys-requires : tie.Need-sized-keys-requires Inv-loop μ-loop
 sized-keys-requires c κs = search needs
 
+sized-keys-requires-2 : tie.Need-sized-keys-requires-2 Inv-loop μ-loop
+sized-keys-requires-2 c κs = search needs
+
+sized-keys-requires-3 : tie.Need-sized-keys-requires-3 Inv-loop μ-loop
+sized-keys-requires-3 c κs = search needs
+
 loop-holds : tie.Need-loop-holds Inv-loop μ-loop
-loop-holds c = (omega arith, c .sized-keys .ensures, λ k h. absurd (omega arith))
+loop-holds c = (omega arith, keys-none (c .before .before .before .before .sized-keys .ensures), keys-none (c .before .before .sized-keys2 .ensures), keys-none (c .sized-keys3 .ensures))
+
+abbrev start : tie.At-loop Inv-loop μ-loop → tie.Start Inv-loop μ-loop
+start l = l .before .before .before .before .before .before .before
 
 keys-at-requires : tie.Need-keys-at-requires Inv-loop μ-loop
-keys-at-requires c κs = (c .before .before .before .before .pre .0, c .loop-test .taken, c .before .before .before .before .pre .1)
+keys-at-requires c κs = let i = c .before in (start (i .before) .pre, i .loop-test .taken, omega arith)
 
-mul-keys : tie.Need-mul-keys Inv-loop μ-loop
-mul-keys c = search needs
+put-two-requires : tie.Need-put-two-requires Inv-loop μ-loop
+put-two-requires c κs = c .before .before .loop-test .taken
 
-mul-keys-2 : tie.Need-mul-keys-2 Inv-loop μ-loop
-mul-keys-2 c = search needs
+keys-at-requires-2 : tie.Need-keys-at-requires-2 Inv-loop μ-loop
+keys-at-requires-2 c κs = let i = c .before .before .before .before in (start (i .before) .pre, i .loop-test .taken, omega arith)
 
-element-write-keys : tie.Need-element-write-keys Inv-loop μ-loop
-element-write-keys c = search needs
+put-two-requires-2 : tie.Need-put-two-requires-2 Inv-loop μ-loop
+put-two-requires-2 c κs = c .before .before .before .before .before .loop-test .taken
 
-mul-keys-3 : tie.Need-mul-keys-3 Inv-loop μ-loop
-mul-keys-3 c = search needs
+keys-at-requires-3 : tie.Need-keys-at-requires-3 Inv-loop μ-loop
+keys-at-requires-3 c κs = let i = c .before .before .before .before .before .before .before in (start (i .before) .pre, i .loop-test .taken, omega arith)
 
-add-keys : tie.Need-add-keys Inv-loop μ-loop
-add-keys c = search needs
-
-mul-keys-4 : tie.Need-mul-keys-4 Inv-loop μ-loop
-mul-keys-4 c = search needs
-
-element-write-keys-2 : tie.Need-element-write-keys-2 Inv-loop μ-loop
-element-write-keys-2 c = search needs
+put-two-requires-3 : tie.Need-put-two-requires-3 Inv-loop μ-loop
+put-two-requires-3 c κs = c .before .before .before .before .before .before .before .before .loop-test .taken
 
 add-place : tie.Need-add-place Inv-loop μ-loop
 add-place c = search needs
@@ -56,16 +58,23 @@ loop-less c = search needs
 
 loop-again : tie.Need-loop-again Inv-loop μ-loop
 loop-again c =
-    let a = c .before .before .before .before .before .args in
-    let l = c .before .before .loop in
-    let e = c .keys-at .ensures in (
+    let kz = c .before in
+    let py = kz .before .before in
+    let ky = py .before in
+    let px = ky .before .before in
+    let kx = px .before in
+    let i = kx .before .before in
+    let l = i .before .loop in
+    let a = start (i .before) .args in
+    let t = i .loop-test .taken in (
       omega arith,
-      length-set (set (l .keys) (2 * l .place) _) (2 * l .place + 1) _ ∙ length-set (l .keys) (2 * l .place) _ ∙ l .inv .1,
-      keys-two (keyIn (a .boxes .now) (a .places .now) (a .axis)) (l .keys) (l .place) (omega (arith, l .inv .1)) (l .inv .2) (e .0) (e .1),
+      subst (KeysTo (a .boxes .now) (a .places .now) 0 (l .place + 1)) (sym (px .put-two .ensures)) (keys-more t (l .inv .1) (kx .keys-at .ensures .0) (kx .keys-at .ensures .1)),
+      subst (KeysTo (a .boxes .now) (a .places .now) 1 (l .place + 1)) (sym (py .put-two2 .ensures)) (keys-more t (l .inv .2) (ky .keys-at2 .ensures .0) (ky .keys-at2 .ensures .1)),
+      subst (KeysTo (a .boxes .now) (a .places .now) 2 (l .place + 1)) (sym (c .put-two3 .ensures)) (keys-more t (l .inv .3) (kz .keys-at3 .ensures .0) (kz .keys-at3 .ensures .1)),
     )
 
 returns : tie.Need-returns Inv-loop μ-loop
-returns c = record { long = c .before .loop .inv .1; is = λ mark h. c .before .loop .inv .2 mark (omega arith) }
+returns c = let i = c .before .loop .inv in let e = c .loop-test .left in (keys-all e (i .1), (keys-all e (i .2), keys-all e (i .3)))
 
 pub put-keys-spec : {M : Type 1} → statement M
 put-keys-spec =
@@ -74,15 +83,15 @@ put-keys-spec =
     Inv-loop
     μ-loop
     sized-keys-requires
+    sized-keys-requires-2
+    sized-keys-requires-3
     loop-holds
     keys-at-requires
-    mul-keys
-    mul-keys-2
-    element-write-keys
-    mul-keys-3
-    add-keys
-    mul-keys-4
-    element-write-keys-2
+    put-two-requires
+    keys-at-requires-2
+    put-two-requires-2
+    keys-at-requires-3
+    put-two-requires-3
     add-place
     loop-less
     loop-again
