@@ -29,10 +29,12 @@ saves-within {line} {d} {before} {after} {r} {n} {start} h e =
     (s .3, text-within (s .2) refl)
 
 -- a result by its parts
-pub writes-done : {d : Desk} {s : ℤ} {before after : List ℕ} {r : Written} → Writes d s before after r → r .number ≡ Limits.done → Writes d s before after (record { number = Limits.done; count = r .count })
+pub writes-done : {d : Desk} {s : ℤ} {before after : List ℕ} {r : Written} → Writes d s before after r → r .number ≡ Limits.done
+    → Writes d s before after (record { number = Limits.done; count = r .count })
 writes-done {d} {s} {before} {after} {r} w z = subst (λ (k : ℕ). Writes d s before after (record { number = k; count = r .count })) z w
 
-pub writes-refused : {d : Desk} {s : ℤ} {before after : List ℕ} {r : Written} → Writes d s before after r → (r .number ≡ Limits.done → ⊥) → Writes d s before after (record { number = r .number; count = 0 })
+pub writes-refused : {d : Desk} {s : ℤ} {before after : List ℕ} {r : Written} → Writes d s before after r → (r .number ≡ Limits.done → ⊥)
+    → Writes d s before after (record { number = r .number; count = 0 })
 writes-refused {d} {s} {before} {after} {r} w f = subst (λ (k : ℕ). Writes d s before after (record { number = r .number; count = k })) (w .zeros f) w
 
 pub put-within : {room text exit : List ℕ} {at r : ℕ} → Put room at text exit r → at ≤ length room → r ≤ length room

@@ -65,8 +65,8 @@ fn wanted(
     if number != limits::DONE {
         return Saving::Refused(number);
     }
-    let n = written.count;
-    Saving::Text(n, start)
+    let count = written.count;
+    Saving::Text(count, start)
 }
 
 // Whether the text is at the path now. Where it is not, the path is as it was.
