@@ -12,7 +12,7 @@ use crate::point::{points, Number, Point};
 use crate::refusals::{lowest, SHORT_ROOM};
 use crate::stl;
 use crate::verdict::{decide, Verdict};
-use crate::words::{read, Command, ROOM_CELLS};
+use crate::words::{bare, read, Command, ROOM_CELLS};
 use std::fmt::Write;
 
 /// Two lists of placed corners whose verdict is asked for, and the gap by which the first is widened.
@@ -94,7 +94,7 @@ fn hex(bytes: &[u8]) -> String {
 impl Program {
     /// Takes in a line that is not passed over, and says what must be answered.
     pub fn told(&mut self, line: &[u8]) -> Expected {
-        let Some(command) = read(line) else {
+        let Some(command) = read(bare(line)) else {
             return no_command();
         };
         match self.run(command) {

@@ -82,9 +82,14 @@ pub enum Command {
     Room(usize),
 }
 
-/// A line of no bytes and a comment get no answer. A line that is too long gets one, even so.
+/// A line as it was cut at byte 10, without the one byte 13 that may end it.
+pub fn bare(line: &[u8]) -> &[u8] {
+    line.strip_suffix(b"\r").unwrap_or(line)
+}
+
+/// A line of no bytes and a remark, however long it is, get no answer.
 pub fn passed_over(line: &[u8]) -> bool {
-    line.is_empty() || (line[0] == b'#' && line.len() <= LONGEST_LINE)
+    matches!(bare(line), [] | [b'#', ..])
 }
 
 /// The command that a line says, if it says one.
@@ -335,6 +340,17 @@ mod tests {
         assert!(read(&long).is_some());
         long.push(b'1');
         assert_eq!(read(&long), None);
+    }
+
+    #[test]
+    fn lines_with_a_byte_13() {
+        assert_eq!(bare(b"fresh\r"), b"fresh");
+        assert_eq!(bare(b"fresh\r\r"), b"fresh\r");
+        assert_eq!(bare(b"\rfresh"), b"\rfresh");
+        assert!(passed_over(b"\r") && passed_over(b"#\r") && !passed_over(b"\r\r"));
+        let mut long = b"#".to_vec();
+        long.resize(2 * LONGEST_LINE, b' ');
+        assert!(passed_over(&long));
     }
 
     #[test]

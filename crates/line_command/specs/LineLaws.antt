@@ -1,10 +1,10 @@
 -- Laws of a line's command: a word that takes as many numbers as there are gets its command, and another count gets none.
--- A line has one command (`command-once`).
-use Prim.Native.Nat.{ℕ, _<_}
+-- A line has one command (`command-once`), and says one thing (`says-once`).
+use Prim.Native.Nat.{ℕ, _≤_, _<_}
 use mathlib.Core.Path.{_≡_, sym, ap, _∙_, subst}
 use mathlib.Core.List.{List, [], _∷_}
 use mathlib.Core.Logic.{inl, inr, if-pos, if-neg}
-use native.Mathlib.Decide.{ℕ-discrete}
+use native.Mathlib.Decide.{ℕ-discrete, decLe}
 use native.Mathlib.Omega.{arith}
 use lib.IntN.{ℤ}
 use lib.ListN.{length, getD, take, drop}
@@ -15,7 +15,7 @@ use Rattle.line.specs.Behind.{behind, NumbersIn, Finds, NotIn}
 use Rattle.line.specs.BehindLaws.{words-are, finds-once}
 use Rattle.line.specs.declared.parts.Index.the-variants.{At}
 use Rattle.line_spoil.specs.CellLaws.{cell-once}
-use Rattle.line_command.specs.Lines.{unknown, at, takes, loadOf, deskWords, otherWords, Unknowing, OfDesk, OfWord, PassedOver, CommandOf}
+use Rattle.line_command.specs.Lines.{unknown, at, takes, loadOf, deskWords, otherWords, Unknowing, OfDesk, OfWord, PassedOver, CommandOf, mostBytes, LineSays}
 use Rattle.desk.specs.declared.Command.the-variants.{Load}
 use Rattle.line_command.specs.declared.Line.{Line}
 use Rattle.line_command.specs.declared.Line.the-variants.{Tell, Spoil}
@@ -97,3 +97,13 @@ command-once (c ∷ s) room x y q r a b = go (ℕ-discrete c 35)
     go : Dec (c ≡ 35) → q ≡ r
     go (yes e) = a .passed e .1 ∙ sym (b .passed e .1)
     go (no f) = let w = words-are (c ∷ s) in word-once (firstWord (c ∷ s)) (behind (c ∷ s) (length (firstWord (c ∷ s)))) room x y q r (a .read f _ _ w) (b .read f _ _ w)
+
+-- one thing that a line says
+pub says-once : (line : List ℕ) (room x y : List ℤ) (q r : Line) → LineSays line room x q → LineSays line room y r → q ≡ r
+says-once [] room x y q r a b = a .passed tt ∙ sym (b .passed tt)
+says-once (c ∷ s) room x y q r a b = go (ℕ-discrete c 35) (decLe (length (c ∷ s)) mostBytes)
+  where
+    go : Dec (c ≡ 35) → Dec (length (c ∷ s) ≤ mostBytes) → q ≡ r
+    go (yes e) d = a .passed e ∙ sym (b .passed e)
+    go (no f) (yes l) = command-once (c ∷ s) room x y q r (a .is-read l) (b .is-read l)
+    go (no f) (no l) = a .too-long f l ∙ sym (b .too-long f l)

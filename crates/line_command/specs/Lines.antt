@@ -123,15 +123,20 @@ abbrev pub PassedOver : List ℕ → Type 0
 PassedOver [] = Unit {0}
 PassedOver (b ∷ line) = b ≡ 35
 
+-- a line that is not passed over is read by its words
+abbrev pub ReadAs : List ℕ → List ℤ → List ℤ → Line → Type 0
+ReadAs line room exit c = (word : List ℕ) (behind : List (List ℕ)) → wordsOf line ≡ word ∷ behind → OfWord word behind room exit c
+
 pub record CommandOf (line : List ℕ) (room exit : List ℤ) (c : Line) : Type 0 where
   pub passed : PassedOver line → (exit ≡ room) × (c ≡ Other Nothing)
-  pub read : (PassedOver line → ⊥) → (word : List ℕ) (behind : List (List ℕ)) → wordsOf line ≡ word ∷ behind → OfWord word behind room exit c
+  pub read : (PassedOver line → ⊥) → ReadAs line room exit c
 
--- "a line of more than 16,384 bytes gets one `?`" (docs/COMMANDS.md)
+-- "a line of more than 16,384 bytes gets one `?`", but "a remark may be as long as it likes" (docs/COMMANDS.md)
 abbrev pub mostBytes : ℕ
 mostBytes = 16384
 
--- what a line says: one that is too long is no command
+-- what a line says: one that is passed over nothing, any other that is too long no command
 pub record LineSays (line : List ℕ) (room exit : List ℤ) (c : Line) : Type 0 where
-  pub too-long : (length line ≤ mostBytes → ⊥) → c ≡ unknown
+  pub passed : PassedOver line → c ≡ Other Nothing
+  pub too-long : (PassedOver line → ⊥) → (length line ≤ mostBytes → ⊥) → c ≡ unknown
   pub is-read : length line ≤ mostBytes → CommandOf line room exit c

@@ -4,7 +4,7 @@ ghost use mathlib.Core.Path.{_≡_};
 ghost use mathlib.Core.Bool.{true};
 ghost use mathlib.Core.Logic.{_↔_};
 ghost use Rattle.line.specs.Behind.{behind, Finds};
-ghost use Rattle.line_command.specs.Lines.{takes, loadOf, placeOf, moveOf, removeOf, settingOf, pairOf, writeOf, deskWords, Unknowing, OfDesk, OfWord, PassedOver, CommandOf, LineSays};
+ghost use Rattle.line_command.specs.Lines.{takes, loadOf, placeOf, moveOf, removeOf, settingOf, pairOf, writeOf, deskWords, Unknowing, OfDesk, OfWord, PassedOver, ReadAs, LineSays};
 use desk::Command;
 use line::kinds::FileKind;
 use line::lent::MOST_BYTES;
@@ -68,23 +68,23 @@ const PAIR_NUMBERS: usize = 2;
 
 const WRITE_NUMBERS: usize = 1;
 
-// What a line says, where it is not too long.
+// What a line says: one that is passed over nothing, however long it is, and any other that is too long no command.
 pub fn says(line: &[u8], numbers: &mut [i32]) -> Line
     ensures { λ r. ⌜ LineSays (now (line .entry)) (now (numbers .entry)) (now (numbers .exit)) r ⌝ }
 {
+    if is_passed_over(line) {
+        return Line::Other(Other::Nothing);
+    }
     if MOST_BYTES < line.len() {
         return Line::Other(Other::Unknown);
     }
     read(line, numbers)
 }
 
-// What a line of any length says, its numbers in the room's first cells.
+// What a line of words says, its numbers in the room's first cells.
 fn read(line: &[u8], numbers: &mut [i32]) -> Line
-    ensures { λ r. ⌜ CommandOf (now (line .entry)) (now (numbers .entry)) (now (numbers .exit)) r ⌝ }
+    ensures { λ r. ⌜ ReadAs (now (line .entry)) (now (numbers .entry)) (now (numbers .exit)) r ⌝ }
 {
-    if is_passed_over(line) {
-        return Line::Other(Other::Nothing);
-    }
     let end = text_words::word_end(line, 0);
     of_word(&line[0..end], line, end, numbers)
 }

@@ -1,32 +1,63 @@
 // The desk at a command line: reads commands from standard input, one a line, and writes one line of answer for each.
-// `run` goes from line to line; `answer::answer` finds the command of a line, and hands it to the function that answers it.
-mod answer;
-mod input;
+// `run` reads, feeds and writes; `line_feed::feed` cuts the lines out of what was read, and `line_answer::answer` answers each.
+mod words;
 
-ghost use lib.ListN.{length};
-ghost use Rattle.mudwicket.specs.InBuffer.{InBuffer};
-use input::Arrival;
-use input::State;
+ghost use mathlib.Core.Path.{_≡_};
+ghost use mathlib.Core.List.{List};
+ghost use mathlib.Core.Bool.{false};
+ghost use Prim.Native.Nat.{ℕ, _≤_, _<_};
+ghost use lib.ListN.{length, getD};
+ghost use Rattle.limits.specs.Limits;
+ghost use Rattle.desk_state.specs.Desk.{deskOf};
+ghost use Rattle.line_command.specs.Lines.{mostBytes};
+ghost use Rattle.line_input.specs.Input.{heldBytes, Holds};
+ghost use Rattle.line_answer.specs.Answered.{keptOf};
+ghost use Rattle.line_feed.specs.Served.{FeedsSome, ServedAll};
+ghost use Rattle.line_runs.specs.Heard.{StandsBy};
 use line::lent;
 use line::out;
+use line_feed::Mode;
+use line_feed::Place;
+use line_feed::answer_held;
+use line_feed::feed;
 use line_tell::fresh;
+use words::words;
 
-// What is lent to every line: the bytes that were read, the answers that were not written yet, room for a command's texts and for its
-// numbers, how much of it is lent, and the desk, which starts afresh.
+// A word that is not known gets a line of usage, and nothing else.
 fn main() {
+    let found = words();
+    let known = found.known;
+    if !known {
+        io::write_all(
+            libc::STDOUT_FILENO,
+            b"usage: mudwicket [--trial] [--echo], with the commands on standard input\n",
+        );
+        return;
+    }
+    desk(Mode {
+        trial: found.trial,
+        echo: found.echo,
+    });
+}
+
+// What is lent to every line: the bytes that were read, the line whose end did not come yet, the answers that were not written yet, room
+// for a command's texts and for its numbers, how much of it is lent, and the desk.
+fn desk(mode: Mode) {
     let mut input = io::large_buffer();
+    let mut held = line_input::buffer();
     let mut out = out::buffer();
     let mut texts = lent::bytes();
     let mut numbers = lent::numbers();
-    let mut lent = lent::start();
+    let mut lent = lent_first();
     let mut shapes = [0i32; limits::SHAPES_LENGTH];
     let mut places = [0i32; limits::PLACES_LENGTH];
     let mut rows = [0u8; limits::ROWS];
     let mut book = [0u32; limits::BOOK];
     let mut marks = lent::marks();
-    fresh(&mut shapes, &mut places, &mut rows, &mut book, &mut marks);
     run(
+        mode,
         &mut input,
+        &mut held,
         &mut out,
         &mut texts,
         &mut numbers,
@@ -39,10 +70,26 @@ fn main() {
     );
 }
 
-// A line or a read a round. A proved loop has to end, and nothing says that the input does: so the rounds are counted down, from a number
-// that no run uses up.
+// How much is lent before the first line: as many marks as a desk has.
+fn lent_first() -> [usize; lent::COUNTS]
+    ensures { λ r. ⌜ getD r 1 0 ≡ Limits.marks ⌝ }
+{
+    let first = lent::start();
+    [first[lent::ROOM_LENT], limits::MARKS]
+}
+
+// How many bytes are kept of a line whose end did not come yet, and whether more may come.
+struct Waiting {
+    kept: usize,
+    open: bool,
+}
+
+// Starts the desk afresh and serves the input. Whatever bytes arrive, the desk is then reached by the accepted commands of its lines, in their
+// order; on trial nothing is promised of that.
 fn run(
+    mode: Mode,
     input: &mut [u8],
+    held: &mut [u8],
     out: &mut [u8],
     texts: &mut [u8],
     numbers: &mut [i32],
@@ -52,17 +99,63 @@ fn run(
     rows: &mut [u8; limits::ROWS],
     book: &mut [u32; limits::BOOK],
     marks: &mut [u16],
-) {
-    let mut s = input::start();
-    let mut at: usize = 0;
+)
+    requires { ⌜ heldBytes ≤ length (now held) ⌝ }
+    requires { ⌜ mostBytes < length (now numbers) ⌝ }
+    requires { ⌜ Limits.marks ≤ length (now marks) ⌝ }
+    requires { ⌜ getD (now lent) 1 0 ≡ Limits.marks ⌝ }
+    ensures { λ _. ⌜ (mode .trial ≡ false → StandsBy (deskOf (now (shapes .exit)) (now (places .exit)) (now (rows .exit)) (now (book .exit)) (now (marks .exit)))) ⌝ }
+{
+    fresh(shapes, places, rows, book, marks);
+    serve(
+        mode,
+        input,
+        held,
+        out,
+        texts,
+        numbers,
+        lent,
+        shapes,
+        places,
+        rows,
+        book,
+        marks,
+    );
+}
+
+// A read a round. A proved loop has to end, and nothing says that the input does: so the rounds are counted down, from a number that no run
+// uses up. The last line may lack its end.
+fn serve(
+    mode: Mode,
+    input: &mut [u8],
+    held: &mut [u8],
+    out: &mut [u8],
+    texts: &mut [u8],
+    numbers: &mut [i32],
+    lent: &mut [usize; lent::COUNTS],
+    shapes: &mut [i32; limits::SHAPES_LENGTH],
+    places: &mut [i32; limits::PLACES_LENGTH],
+    rows: &mut [u8; limits::ROWS],
+    book: &mut [u32; limits::BOOK],
+    marks: &mut [u16],
+)
+    requires { ⌜ heldBytes ≤ length (now held) ⌝ }
+    ensures { λ _. ⌜ ServedAll (mode .trial) (length (now (numbers .entry)))
+        (keptOf (now (shapes .entry)) (now (places .entry)) (now (rows .entry)) (now (book .entry)) (now (marks .entry)) (now (lent .entry)))
+        (keptOf (now (shapes .exit)) (now (places .exit)) (now (rows .exit)) (now (book .exit)) (now (marks .exit)) (now (lent .exit))) ⌝ }
+{
+    let mut r = Waiting {
+        kept: 0,
+        open: true,
+    };
     let mut rounds = u64::MAX;
-    while rounds > 0 && !input::is_last(s) {
-        s = input::advance(input, s);
-        at = respond(
+    while rounds > 0 && r.open {
+        r = round(
+            mode,
             input,
-            s,
+            r.kept,
+            held,
             out,
-            at,
             texts,
             numbers,
             lent,
@@ -74,15 +167,31 @@ fn run(
         );
         rounds -= 1;
     }
+    let at = answer_held(
+        mode,
+        held,
+        r.kept,
+        out,
+        0,
+        texts,
+        numbers,
+        lent,
+        shapes,
+        places,
+        rows,
+        book,
+        marks,
+    );
     out::flush(out, at);
 }
 
-// Answers what a round found. What waits is written out before more is read, so that a person sees the answer to each line.
-fn respond(
-    input: &[u8],
-    s: State,
+// Reads once, feeds what was read, and writes the answers out, so that a person sees the answer to each line before typing the next.
+fn round(
+    mode: Mode,
+    input: &mut [u8],
+    kept: usize,
+    held: &mut [u8],
     out: &mut [u8],
-    at: usize,
     texts: &mut [u8],
     numbers: &mut [i32],
     lent: &mut [usize; lent::COUNTS],
@@ -91,27 +200,42 @@ fn respond(
     rows: &mut [u8; limits::ROWS],
     book: &mut [u32; limits::BOOK],
     marks: &mut [u16],
-) -> usize
-    requires { ⌜ InBuffer s (length (now input)) ⌝ }
+) -> Waiting
+    ensures { λ r. ⌜ ((part : List ℕ) → Holds (now (held .entry)) kept part → FeedsSome (mode .trial) (length (now (numbers .entry))) part
+        (keptOf (now (shapes .entry)) (now (places .entry)) (now (rows .entry)) (now (book .entry)) (now (marks .entry)) (now (lent .entry)))
+        (keptOf (now (shapes .exit)) (now (places .exit)) (now (rows .exit)) (now (book .exit)) (now (marks .exit)) (now (lent .exit)))
+        (now (held .exit)) (r .kept)) ⌝ }
 {
-    let arrival = s.arrival;
-    let start = s.start;
-    let end = s.end;
-    match arrival {
-        Arrival::Unfinished => out::flush(out, at),
-        _ => answer::answer(
-            arrival,
-            &input[start..end],
-            out,
-            at,
-            texts,
-            numbers,
-            lent,
-            shapes,
-            places,
-            rows,
-            book,
-            marks,
-        ),
+    let n = read_part(input);
+    let start = Place { kept, at: 0 };
+    let place = feed(
+        mode,
+        &input[0..n],
+        start,
+        held,
+        out,
+        texts,
+        numbers,
+        lent,
+        shapes,
+        places,
+        rows,
+        book,
+        marks,
+    );
+    let at = place.at;
+    let more = place.kept;
+    out::flush(out, at);
+    Waiting {
+        kept: more,
+        open: n != 0,
     }
+}
+
+// One read. An answer of no bytes says that the input ends, or that it cannot be read.
+fn read_part(part: &mut [u8]) -> usize
+    ensures { λ r. ⌜ r ≤ length (now (part .entry)) ⌝ }
+{
+    let got = libc::read(libc::STDIN_FILENO, part);
+    io::count(got, part)
 }

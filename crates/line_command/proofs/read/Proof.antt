@@ -1,7 +1,6 @@
--- `line_command::read` meets its contract: a line that is not passed over is its first word and the words behind it.
+-- `line_command::read` meets its contract: a line is its first word and the words behind it.
 use borrow.Author.Needs.{needs}
-use mathlib.Core.Path.{_≡_, refl, sym, ap, _∙_}
-use mathlib.Core.Bool.{false≢true}
+use mathlib.Core.Path.{_≡_, ap, _∙_}
 use Prim.Native.Nat.{ℕ, _-_}
 use native.Mathlib.Omega.{arith}
 use lib.ListN.{length, take}
@@ -10,12 +9,6 @@ use Rattle.text_cut.specs.CutLaws.{first-take}
 use Rattle.line_command.specs.LineLaws.{of-line}
 use Rattle.line_command.proofs.read.Statement.{statement}
 use Rattle.line_command.proofs.read.Tie as tie
-
-is-passed-over-requires : tie.Need-is-passed-over-requires
-is-passed-over-requires c κs = search needs
-
-returns : tie.Need-returns
-returns c = record { passed = λ p. (refl, refl); read = λ n. absurd (n (c .before .is-passed-over .ensures .0 (c .if1 .taken))) }
 
 word-end-requires : tie.Need-word-end-requires
 word-end-requires c κs = search needs
@@ -35,31 +28,24 @@ of-word-requires c κs = search needs
 same-length : tie.Need-same-length
 same-length c = search needs
 
-returns-2 : tie.Need-returns-2
-returns-2 c =
+returns : tie.Need-returns
+returns c =
     let b = c .before .before .before .before in
-    let i = b .before in
-    let p = i .before in
-    let s = p .before .before .args .line .now in
-    let room = p .before .before .args .numbers .now in
+    let s = b .before .before .args .line .now in
+    let room = b .before .before .args .numbers .now in
     let e : b .word-end .result ≡ length (firstWord s) = omega (arith, b .word-end .ensures .0) in
     let f : b .word-end .result - 0 ≡ length (firstWord s) = omega (arith, e) in
     let o = c .before in
-    record {
-      passed = λ q. absurd (false≢true (sym (i .if1 .left) ∙ p .is-passed-over .ensures .1 q));
-      read = λ n. of-line s room (o .of-word .last .1 .1 .1 .0) (o .of-word .result) (ap (λ (k : ℕ). take k s) f ∙ first-take spaceByte s) e (o .of-word .ensures);
-    }
+    of-line s room (o .of-word .last .1 .1 .1 .0) (o .of-word .result) (ap (λ (k : ℕ). take k s) f ∙ first-take spaceByte s) e (o .of-word .ensures)
 
 pub read-spec : {M : Type 1} → statement M
 read-spec =
     tie.close
     (tie.spec
-    is-passed-over-requires
-    returns
     word-end-requires
     sub-of-word
     part-of-word-start
     part-of-word-end
     of-word-requires
     same-length
-    returns-2)
+    returns)

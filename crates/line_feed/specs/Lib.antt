@@ -1,0 +1,3 @@
+pub mod HeldLaws
+pub mod Served
+pub mod ServedLaws

@@ -1,3 +1,0 @@
-pub mod InBuffer
-pub mod Answered
-pub mod AnsweredLaws
