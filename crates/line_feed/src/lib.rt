@@ -14,6 +14,7 @@ use line_answer::answer;
 use line_input::LINE_END;
 use line_input::bare;
 use line_input::hold;
+use line_io::write_out;
 
 // How the program was started: on trial the test tools are answered; with an echo each line that gets an answer is written before it.
 pub struct Mode {
@@ -145,7 +146,7 @@ pub fn answer_held(
     let n = at_most(kept, held.len());
     let line = bare(&held[0..n]);
     let next = echoed(echo, line, out, at);
-    answer(
+    let next = answer(
         trial,
         line,
         out,
@@ -158,7 +159,17 @@ pub fn answer_held(
         rows,
         book,
         marks,
-    )
+    );
+    settled(out, next)
+}
+
+// Writes the answers out once they fill half of the buffer. The longest answer fits the other half of the program's: a report of 8,128
+// contacts at 43 bytes each, behind a line of 16,384.
+fn settled(out: &mut [u8], at: usize) -> usize {
+    if at <= out.len() / 2 {
+        return at;
+    }
+    write_out(out, at)
 }
 
 // Puts a line before its answer, behind `> `, where that is asked for. One that is passed over gets no answer; of one that is too long the

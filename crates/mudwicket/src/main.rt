@@ -15,11 +15,12 @@ ghost use Rattle.line_answer.specs.Answered.{keptOf};
 ghost use Rattle.line_feed.specs.Served.{FeedsSome, ServedAll};
 ghost use Rattle.line_runs.specs.Heard.{StandsBy};
 use line::lent;
-use line::out;
 use line_feed::Mode;
 use line_feed::Place;
 use line_feed::answer_held;
 use line_feed::feed;
+use line_io::read_in;
+use line_io::write_out;
 use line_tell::fresh;
 use words::words;
 
@@ -28,10 +29,7 @@ fn main() {
     let found = words();
     let known = found.known;
     if !known {
-        io::write_all(
-            libc::STDOUT_FILENO,
-            b"usage: mudwicket [--trial] [--echo], with the commands on standard input\n",
-        );
+        usage(b"usage: mudwicket [--trial] [--echo], with the commands on standard input\n");
         return;
     }
     desk(Mode {
@@ -40,12 +38,25 @@ fn main() {
     });
 }
 
+fn usage(text: &[u8]) {
+    write_out(text, text.len());
+}
+
+// Room for the answers that were not written yet: twice the longest answer and more.
+const ANSWERS: usize = 1048576;
+
+fn answers() -> [u8; ANSWERS]
+    ensures { λ r. ⌜ 1048576 ≡ length r ⌝ }
+{
+    [0; ANSWERS]
+}
+
 // What is lent to every line: the bytes that were read, the line whose end did not come yet, the answers that were not written yet, room
 // for a command's texts and for its numbers, how much of it is lent, and the desk.
 fn desk(mode: Mode) {
     let mut input = io::large_buffer();
     let mut held = line_input::buffer();
-    let mut out = out::buffer();
+    let mut out = answers();
     let mut texts = lent::bytes();
     let mut numbers = lent::numbers();
     let mut lent = lent_first();
@@ -78,10 +89,11 @@ fn lent_first() -> [usize; lent::COUNTS]
     [first[lent::ROOM_LENT], limits::MARKS]
 }
 
-// How many bytes are kept of a line whose end did not come yet, and whether more may come.
+// How many bytes are kept of a line whose end did not come yet, whether more may come, and whether a write or a read has failed.
 struct Waiting {
     kept: usize,
     open: bool,
+    failed: bool,
 }
 
 // Starts the desk afresh and serves the input. Whatever bytes arrive, the desk is then reached by the accepted commands of its lines, in their
@@ -124,7 +136,7 @@ fn run(
 }
 
 // A read a round. A proved loop has to end, and nothing says that the input does: so the rounds are counted down, from a number that no run
-// uses up. The last line may lack its end.
+// uses up. The last line may lack its end. Where a write or a read has failed, the program stops at once.
 fn serve(
     mode: Mode,
     input: &mut [u8],
@@ -147,6 +159,7 @@ fn serve(
     let mut r = Waiting {
         kept: 0,
         open: true,
+        failed: false,
     };
     let mut rounds = u64::MAX;
     while rounds > 0 && r.open {
@@ -167,6 +180,9 @@ fn serve(
         );
         rounds -= 1;
     }
+    if r.failed {
+        return;
+    }
     let at = answer_held(
         mode,
         held,
@@ -182,7 +198,7 @@ fn serve(
         book,
         marks,
     );
-    out::flush(out, at);
+    write_out(out, at);
 }
 
 // Reads once, feeds what was read, and writes the answers out, so that a person sees the answer to each line before typing the next.
@@ -206,7 +222,14 @@ fn round(
         (keptOf (now (shapes .exit)) (now (places .exit)) (now (rows .exit)) (now (book .exit)) (now (marks .exit)) (now (lent .exit)))
         (now (held .exit)) (r .kept)) ⌝ }
 {
-    let n = read_part(input);
+    let n = read_in(input);
+    if input.len() < n {
+        return Waiting {
+            kept,
+            open: false,
+            failed: true,
+        };
+    }
     let start = Place { kept, at: 0 };
     let place = feed(
         mode,
@@ -223,19 +246,20 @@ fn round(
         book,
         marks,
     );
-    let at = place.at;
     let more = place.kept;
-    out::flush(out, at);
+    let at = write_out(out, place.at);
+    let failed = out.len() < at;
     Waiting {
         kept: more,
-        open: n != 0,
+        open: goes_on(n, failed),
+        failed,
     }
 }
 
-// One read. An answer of no bytes says that the input ends, or that it cannot be read.
-fn read_part(part: &mut [u8]) -> usize
-    ensures { λ r. ⌜ r ≤ length (now (part .entry)) ⌝ }
-{
-    let got = libc::read(libc::STDIN_FILENO, part);
-    io::count(got, part)
+// The input goes on where something came; the program where nothing has failed.
+fn goes_on(n: usize, failed: bool) -> bool {
+    if failed {
+        return false;
+    }
+    n != 0
 }

@@ -30,6 +30,9 @@ echoed-requires c κs = search needs
 answer-requires : tie.Need-answer-requires
 answer-requires c κs = search needs
 
+settled-requires : tie.Need-settled-requires
+settled-requires c κs = search needs
+
 same-length : tie.Need-same-length
 same-length c = search needs
 
@@ -46,15 +49,17 @@ returns : tie.Need-returns
 returns c =
     let b10 = c .before .before .before .before .before .before .before .before .before .before in
     let b20 = b10 .before .before .before .before .before .before .before .before .before .before in
-    let s = b20 .before .before .before .before .before .before .before .before in
+    let b30 = b20 .before .before .before .before .before .before .before .before .before .before in
+    let s = b30 .before .before in
     let a = s .args in
-    let m = b20 .before .before .before .at-most in
+    let m = b20 .before .before .before .before .before .before .before .at-most in
+    let line = b20 .before .before .before .before .before .bare .ensures in
     λ part h.
     let e : m .result - 0 ≡ a .kept = omega (arith, m .ensures .0, h .within) in
     record {
       room = a .numbers .now;
       size = refl;
-      answered = answered-kept h (b20 .before .bare .ensures ∙ ap (λ (k : ℕ). bare (take k (a .held .now))) e) (c .before .before .before .before .before .before .before .answer .ensures);
+      answered = answered-kept h (line ∙ ap (λ (k : ℕ). bare (take k (a .held .now))) e) (b10 .before .answer .ensures);
     }
 
 pub answer-held-spec : {M : Type 1} → statement M
@@ -68,6 +73,7 @@ answer-held-spec =
     bare-requires
     echoed-requires
     answer-requires
+    settled-requires
     same-length
     same-length-2
     same-length-3

@@ -5,8 +5,7 @@ use native.Mathlib.Omega.{arith}
 use lib.ListN.{length}
 use Rattle.line_answer.specs.Answered.{keptOf}
 use Rattle.line_feed.specs.Served.{FeedsSome}
-use Rattle.line_feed.specs.ServedLaws.{feeds-room, some-none, some-more, all-lines}
-use borrow.Author.Needs.{needs}
+use Rattle.line_feed.specs.ServedLaws.{feeds-room, some-none, some-more, all-lines, ended-lines}
 use Rattle.mudwicket.proofs.serve.Statement.{statement}
 use Rattle.mudwicket.proofs.serve.Tie as tie
 
@@ -58,55 +57,76 @@ loop-again c =
       f .kept .1 .1 .1 .1 .1 .1 .1 .1 .1 .1 .1 .1 .0 ∙ l .inv .6,
     )
 
+same-length : tie.Need-same-length Inv-loop μ-loop
+same-length c = c .before .before .loop .inv .1
+
+same-length-2 : tie.Need-same-length-2 Inv-loop μ-loop
+same-length-2 c = c .before .before .loop .inv .2
+
+same-length-3 : tie.Need-same-length-3 Inv-loop μ-loop
+same-length-3 c = c .before .before .loop .inv .3
+
+same-length-4 : tie.Need-same-length-4 Inv-loop μ-loop
+same-length-4 c = c .before .before .loop .inv .4
+
+same-length-5 : tie.Need-same-length-5 Inv-loop μ-loop
+same-length-5 c = c .before .before .loop .inv .5
+
+same-length-6 : tie.Need-same-length-6 Inv-loop μ-loop
+same-length-6 c = c .before .before .loop .inv .6
+
+returns : tie.Need-returns Inv-loop μ-loop
+returns c = ended-lines (c .before .before .loop .inv .0)
+
 answer-held-requires : tie.Need-answer-held-requires Inv-loop μ-loop
 answer-held-requires c κs = tt
 
-flush-requires : tie.Need-flush-requires Inv-loop μ-loop
-flush-requires c κs = tt
+write-out-requires : tie.Need-write-out-requires Inv-loop μ-loop
+write-out-requires c κs = tt
 
-same-length : tie.Need-same-length Inv-loop μ-loop
-same-length c =
+same-length-7 : tie.Need-same-length-7 Inv-loop μ-loop
+same-length-7 c =
     let b10 = c .before .before .before .before .before .before .before .before .before .before in
     let b20 = b10 .before .before .before .before .before .before .before .before .before .before in
-    b20 .before .before .before .loop .inv .1
+    b20 .before .before .loop .inv .1
 
-same-length-2 : tie.Need-same-length-2 Inv-loop μ-loop
-same-length-2 c =
+same-length-8 : tie.Need-same-length-8 Inv-loop μ-loop
+same-length-8 c =
     let b10 = c .before .before .before .before .before .before .before .before .before .before in
     let b20 = b10 .before .before .before .before .before .before .before .before .before .before in
-    b20 .before .before .before .loop .inv .2
+    b20 .before .before .loop .inv .2
 
-same-length-3 : tie.Need-same-length-3 Inv-loop μ-loop
-same-length-3 c =
+same-length-9 : tie.Need-same-length-9 Inv-loop μ-loop
+same-length-9 c =
     let b10 = c .before .before .before .before .before .before .before .before .before .before in
     let b20 = b10 .before .before .before .before .before .before .before .before .before .before in
-    c .before .before .flush .kept .0 ∙ b10 .before .answer-held .kept .1 .1 .1 .0 ∙ b20 .before .before .before .loop .inv .3
+    c .before .before .before .before .before .before .before .before .before .answer-held .kept .1 .1 .1 .0 ∙ b20 .before .before .loop .inv .3
 
-same-length-4 : tie.Need-same-length-4 Inv-loop μ-loop
-same-length-4 c =
+same-length-10 : tie.Need-same-length-10 Inv-loop μ-loop
+same-length-10 c =
     let b10 = c .before .before .before .before .before .before .before .before .before .before in
     let b20 = b10 .before .before .before .before .before .before .before .before .before .before in
-    b10 .before .answer-held .kept .1 .1 .1 .1 .1 .0 ∙ b20 .before .before .before .loop .inv .4
+    c .before .before .before .before .before .before .before .before .before .answer-held .kept .1 .1 .1 .1 .1 .0 ∙ b20 .before .before .loop .inv .4
 
-same-length-5 : tie.Need-same-length-5 Inv-loop μ-loop
-same-length-5 c =
+same-length-11 : tie.Need-same-length-11 Inv-loop μ-loop
+same-length-11 c =
     let b10 = c .before .before .before .before .before .before .before .before .before .before in
     let b20 = b10 .before .before .before .before .before .before .before .before .before .before in
-    b10 .before .answer-held .kept .1 .1 .1 .1 .1 .1 .0 ∙ b20 .before .before .before .loop .inv .5
+    c .before .before .before .before .before .before .before .before .before .answer-held .kept .1 .1 .1 .1 .1 .1 .0 ∙ b20 .before .before .loop .inv .5
 
-same-length-6 : tie.Need-same-length-6 Inv-loop μ-loop
-same-length-6 c =
+same-length-12 : tie.Need-same-length-12 Inv-loop μ-loop
+same-length-12 c =
     let b10 = c .before .before .before .before .before .before .before .before .before .before in
     let b20 = b10 .before .before .before .before .before .before .before .before .before .before in
-    b10 .before .answer-held .kept .1 .1 .1 .1 .1 .1 .1 .1 .1 .1 .1 .1 .0 ∙ b20 .before .before .before .loop .inv .6
+    c .before .before .before .before .before .before .before .before .before .answer-held .kept .1 .1 .1 .1 .1 .1 .1 .1 .1 .1 .1 .1 .0 ∙ b20 .before .before .loop .inv .6
 
-returns : tie.Need-returns Inv-loop μ-loop
-returns c =
+returns-2 : tie.Need-returns-2 Inv-loop μ-loop
+returns-2 c =
     let b10 = c .before .before .before .before .before .before .before .before .before .before in
     let b20 = b10 .before .before .before .before .before .before .before .before .before .before in
-    let l = b20 .before .before .before .loop in
+    let l = b20 .before .before .loop in
     let h = l .inv .0 in
-    let s = b10 .before .answer-held .ensures _ (h .feeds .holds) in
+    let s = c .before .before .before .before .before .before .before .before .before .answer-held .ensures _ (h .feeds .holds) in
     all-lines h (record { room = s .room; size = s .size ∙ l .inv .5; answered = s .answered })
 
 pub serve-spec : {M : Type 1} → statement M
@@ -120,12 +140,19 @@ serve-spec =
     sub-rounds
     loop-less
     loop-again
-    answer-held-requires
-    flush-requires
     same-length
     same-length-2
     same-length-3
     same-length-4
     same-length-5
     same-length-6
-    returns)
+    returns
+    answer-held-requires
+    write-out-requires
+    same-length-7
+    same-length-8
+    same-length-9
+    same-length-10
+    same-length-11
+    same-length-12
+    returns-2)
