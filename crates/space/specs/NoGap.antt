@@ -1,4 +1,5 @@
--- The definitions as they stood before W6, document 01's as W5 amends them: two pieces with no gap between them, and pairs that name no cube corner.
+-- The definitions as they stood before W6, document 01's as W5 amends them: two pieces with no gap between them, and pairs whose cube corner is not read.
+-- It is asked to be one of eight all the same, since `Fair` of Verdicts is cited.
 -- No proof stands here. That with g = 0 the definitions of Verdicts say the same is in NoGapLaws: "With g = 0 all of 01 as amended stands."
 use mathlib.Core.Path.{_≡_}
 use mathlib.Core.List.{List, [], _∷_, List·Memᴰ}
