@@ -1,5 +1,7 @@
 // The desk's commands for a program in another language to link: `bench/` measures them beside an ordinary desk.
 // Each promises what the call beneath it promises; an answer that is an enum or carries witnesses is two numbers here.
+#![tactic(auto)]
+
 ghost use Rattle.std.specs.Prelude.{◌≡◌};
 ghost use Rattle.limits.specs.Decides.{Decides};
 ghost use Rattle.desk_state.specs.Desk.{desk_of, InOrder};

@@ -4,7 +4,7 @@ use Rattle.std.specs.Prelude.{ℕ, ◌<◌, ◌≡◌, ◌⊎◌, List, ◌∷�
 use Rattle.std.proofs.Common.{sym, ap, ◌∙◌, ⊎_elim}
 use Rattle.limits.specs.Limits
 use Rattle.limits.specs.Lowest.{◌when◌}
-use Rattle.limits.specs.LowestLaws.{lowest_once}
+use Rattle.limits.proofs.LowestLaws.{lowest_once}
 use Rattle.scans.specs.Once.{zero_or, steps_once}
 use Rattle.scans.specs.declared.Point.{Point}
 use Rattle.blanks.specs.Blanks.{size_refusals, Filled, WrittenAs}

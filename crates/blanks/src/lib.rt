@@ -1,5 +1,7 @@
 // Blanks: a box, a wedge or a corner piece by its sizes in millimetres, written to lent room as corners in steps.
 // One table a kind says which size each number of its corners is, and one loop writes them.
+#![tactic(auto)]
+
 ghost use Rattle.std.specs.Prelude.{◌≡◌, ◌++◌, ◌≤◌, length, drop};
 ghost use Rattle.blanks.specs.Blanks.{sizes, needed, blank_corners, WrittenAs};
 ghost use Rattle.blanks.specs.Chosen.{chosen, chosen_all, all_positive, point, SizesAs};

@@ -1,5 +1,7 @@
 // The desk: what each command and question promises, the answer to a command, starting afresh, and the listing of contacts.
 // The other commands stand in `desk_load`, `desk_place`, `desk_move`, `desk_gap` and `desk_ask`; each first tests that the desk is in order.
+#![tactic(auto)]
+
 pub mod contacts;
 pub mod start;
 

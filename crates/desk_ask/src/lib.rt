@@ -1,5 +1,7 @@
 // The pair question: the verdict of two different taken places of a desk in order by the desk's gap, with its witnesses.
 // The desk is only read.
+#![tactic(auto)]
+
 ghost use Rattle.desk_state.specs.Desk.{desk_of};
 ghost use Rattle.desk.specs.Commands.{Pairs};
 

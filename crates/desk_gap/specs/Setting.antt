@@ -4,7 +4,7 @@ use Rattle.std.specs.Prelude.{◌≡◌, refl, List, [], ◌∷◌, ◌⊎◌, �
 use Rattle.std.proofs.Common.{sym, ap, ◌∙◌, subst, inr, arith}
 use Rattle.limits.specs.Limits
 use Rattle.limits.specs.Lowest.{Lowest, ◌when◌}
-use Rattle.limits.specs.LowestLaws.{positive}
+use Rattle.limits.proofs.LowestLaws.{positive}
 use Rattle.rows_tally.specs.Tallies.{gap_put}
 use Rattle.pieces.specs.Pieces.{Taken}
 use Rattle.pieces.specs.Index.{Indexed}

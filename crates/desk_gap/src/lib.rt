@@ -1,5 +1,7 @@
 // Setting the gap (W6): the desk's gap is stored while no place is taken, so that no row was worked out by another. Nothing else changes.
 // Every refusal is found before anything is written.
+#![tactic(auto)]
+
 ghost use Rattle.limits.specs.Decides.{Decides};
 ghost use Rattle.desk_state.specs.Desk.{desk_of};
 ghost use Rattle.desk.specs.Commands.{SomeTaken, SetsGap};

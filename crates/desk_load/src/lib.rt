@@ -1,5 +1,7 @@
 // Loading a shape: its corners are stored at a number that has none yet. No place names that number, so nothing else changes.
 // Every refusal is found before anything is written.
+#![tactic(auto)]
+
 ghost use Rattle.std.specs.Prelude.{◌≡◌, ◌+◌, ◌<◌, ◌≤◌, length};
 ghost use Rattle.std.proofs.lemmas.List.Edits.{sets};
 ghost use Rattle.limits.specs.Limits;

@@ -5,7 +5,7 @@ use Rattle.std.proofs.Common.{sym, ap, ◌∙◌, subst, inr, arith}
 use Rattle.std.proofs.Math.IntN.{-ℤ_one}
 use Rattle.limits.specs.Limits
 use Rattle.limits.specs.Lowest.{Lowest}
-use Rattle.limits.specs.LowestLaws.{positive, lowest_first, lowest_then}
+use Rattle.limits.proofs.LowestLaws.{positive, lowest_first, lowest_then}
 use Rattle.limits.specs.Numbered.{Numbered}
 use Rattle.marks.specs.Marks.{OthersStayMarks}
 use Rattle.marks.specs.Keys.{KeyedMarks}

@@ -1,5 +1,7 @@
 // Moving a piece: a taken place gets a new turn and offset, and the answer counts the pairs of marks that changed their order.
 // Every refusal is found before anything is written.
+#![tactic(auto)]
+
 ghost use Rattle.std.specs.Prelude.{◌≡◌, ◌+◌, ◌<◌};
 ghost use Rattle.limits.specs.Limits;
 ghost use Rattle.limits.specs.Numbered.{Numbered};

@@ -4,7 +4,7 @@ use Rattle.std.specs.Prelude.{◌≡◌, refl, List, [], ◌++◌, ℕ, ◌<◌,
 use Rattle.std.proofs.Common.{sym, subst, inl, inr, arith}
 use Rattle.limits.specs.Limits
 use Rattle.limits.specs.Lowest.{Refusal, Lowest}
-use Rattle.limits.specs.LowestLaws.{positive, lowest_first, lowest_then}
+use Rattle.limits.proofs.LowestLaws.{positive, lowest_first, lowest_then}
 use Rattle.pieces.specs.declared.placement.Placement.{Placement}
 use Rattle.pieces.specs.Pieces.{Store, Loaded, store_of}
 use Rattle.pieces_test.specs.OrderTest.{loaded_alone}

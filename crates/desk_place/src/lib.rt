@@ -1,5 +1,7 @@
 // Placing a piece, a loaded shape with a turn and an offset, at an empty place, and removing one.
 // Every refusal is found before anything is written.
+#![tactic(auto)]
+
 ghost use Rattle.desk_state.specs.Desk.{desk_of};
 ghost use Rattle.desk.specs.Commands.{Places, Removed};
 ghost use Rattle.desk_place.specs.Placing.{PlaceAsked};

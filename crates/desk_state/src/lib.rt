@@ -1,5 +1,7 @@
 // The order test of a whole desk, which every command and question makes first: refusal 1 where it fails.
 // The boxes of the shapes and the keys of the marks are worked out once, and lent on to whoever goes on with the desk.
+#![tactic(auto)]
+
 ghost use Rattle.std.specs.Prelude.{◌≡◌, true};
 ghost use Rattle.limits.specs.Decides.{Decides};
 ghost use Rattle.pieces.specs.Pieces.{store_of};

@@ -1,5 +1,7 @@
 // One command told to the desk, whichever it is: what a run of commands and the program's lines both go by.
 // Each command refuses what it does not take; its corner numbers come beside it, and a load alone reads them.
+#![tactic(auto)]
+
 ghost use Rattle.desk_state.specs.Desk.{desk_of};
 ghost use Rattle.desk.specs.Commands.{Does};
 

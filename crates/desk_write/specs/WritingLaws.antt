@@ -8,7 +8,7 @@ use Rattle.ints.specs.Order.{lt-or-ge}
 use Rattle.limits.specs.Limits
 use Rattle.limits.specs.Numbered.{Numbered}
 use Rattle.limits.specs.Lowest.{Refusal, Lowest, Rising, Positive}
-use Rattle.limits.specs.LowestLaws.{positive, lowest_first, lowest_then, lowest_once}
+use Rattle.limits.proofs.LowestLaws.{positive, lowest_first, lowest_then, lowest_once}
 use Rattle.space.specs.Lists.{LengthFits, InReach}
 use Rattle.pieces.specs.Pieces.{Store, store_of, corners_of, shape_value, list_to, Loaded, ShapesInOrder}
 use Rattle.pieces.specs.Store.{list_length_lem, list_at}

@@ -1,5 +1,7 @@
 // A shape of a desk written back as an OFF text (document 02, W7), at the start of lent room.
 // The desk is only read; the room past what is written keeps its value, and all of it where the command is refused.
+#![tactic(auto)]
+
 ghost use Rattle.std.specs.Prelude.{[]};
 ghost use Rattle.pieces.specs.Pieces.{store_of, Loaded, ShapesInOrder};
 ghost use Rattle.desk_state.specs.Desk.{desk_of};

@@ -4,7 +4,6 @@ pub mod DecidesLaws
 pub mod Kiln
 pub mod Limits
 pub mod Lowest
-pub mod LowestLaws
 pub mod Numbered
 pub mod Powers
 pub mod Tied

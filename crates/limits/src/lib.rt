@@ -1,5 +1,7 @@
 // Every number that document 01 fixes and a request may change or add to, once: sizes (W4's), ranges, and the refusals by name.
 // specs/ has the same numbers for contracts; the five `tied_` functions below tie the two together.
+#![tactic(auto)]
+
 ghost use Rattle.std.specs.Prelude.{◌≡◌};
 ghost use Rattle.limits.specs.Tied.{the_sizes, the_verdicts, the_ranges, the_refusals};
 

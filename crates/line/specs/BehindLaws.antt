@@ -5,7 +5,7 @@ use Rattle.std.proofs.Common.{sym, ap, ◌∙◌, subst, inl, inr, add-one, arit
 use Rattle.std.proofs.Math.Logic.{if_pos, if_neg}
 use Rattle.std.proofs.Math.Decide.{dec_lt}
 use Rattle.text_words.specs.Words.{space_byte, first_word, words_of, Stuck, Listed}
-use Rattle.text_cut.specs.CutLaws.{first_le, parts_last, parts_next}
+use Rattle.text_cut.proofs.CutLaws.{first_le, parts_last, parts_next}
 use Rattle.text_words.specs.ReadLaws.{never_stuck}
 use Rattle.text_words.specs.declared.Count.TheVariants.{Numbers}
 use Rattle.line.specs.Behind.{behind, NumbersIn, Finds}

@@ -1,5 +1,7 @@
 // The answer to a line, by what it says.
 // What the desk has a part in is lent the desk; the rest is not. The test tools are answered where the program is on trial, and else get `?`.
+#![tactic(auto)]
+
 ghost use Rattle.std.specs.Prelude.{◌≡◌, false};
 ghost use Rattle.desk_state.specs.Desk.{desk_of};
 ghost use Rattle.line_answer.specs.Answered.{kept_of, Answered};

@@ -1,5 +1,7 @@
 // What a line says: a variant of `Line`, its word below, and the arm that answers it.
 // The desk's commands carry their numbers, so a line that is none of them is found before the desk sees it.
+#![tactic(auto)]
+
 ghost use Rattle.std.specs.Prelude.{◌≡◌, true, ◌↔◌};
 ghost use Rattle.line.specs.Behind.{behind, Finds};
 ghost use Rattle.line_command.specs.Lines.{takes, load_of, place_of, move_of, remove_of, setting_of, pair_of, write_of, desk_words, Unknowing, OfDesk, OfWord, PassedOver, ReadAs, LineSays};

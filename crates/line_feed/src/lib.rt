@@ -1,5 +1,7 @@
 // A piece of the input fed: each line that ends in it is answered, and what is there of the next one is kept until its end comes.
 // In whatever pieces the input is read, the lines are those of the input.
+#![tactic(auto)]
+
 ghost use Rattle.std.specs.Prelude.{List, [], ◌∷◌, ℕ, length};
 ghost use Rattle.line_input.specs.Input.{bare as Input·bare, Holds};
 ghost use Rattle.line_answer.specs.Answered.{kept_of};

@@ -1,5 +1,7 @@
 // `load-stl S PATH` and `load-off S PATH`: the number of a shape, and the corners of the file at a path.
 // No contract says which bytes the system hands over; what is promised is that the corners are those of the bytes that came.
+#![tactic(auto)]
+
 ghost use Rattle.std.specs.Prelude.{◌≤◌, ◌-◌, ◌≡◌, length};
 ghost use Rattle.line_file.specs.Requests.{ShapePathOf, OfFile, Requests, GotWithin, FileWithin};
 ghost use Rattle.line.specs.declared.kinds.FileKind.TheVariants.{Stl, Off};

@@ -7,7 +7,7 @@ use Rattle.std.proofs.Math.Decide.{ℕ_discrete}
 use Rattle.std.proofs.lemmas.List.{take-append-le}
 use Rattle.std.proofs.Math.Seq.{append_snoc}
 use Rattle.text_cut.specs.Cuts.{Uncut, Cut, last, cut, parts_of}
-use Rattle.text_cut.specs.CutLaws.{cut_is}
+use Rattle.text_cut.proofs.CutLaws.{cut_is}
 use Rattle.line_input.specs.Input.{end_byte, return_byte, bare, lines_of, Fed, ended_first, fed, fed_more, held_bytes, Holds}
 
 -- ---- byte by byte

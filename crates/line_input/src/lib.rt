@@ -1,5 +1,7 @@
 // Standard input as it arrives, cut into lines: what is kept of a line whose end did not come yet, and a line without its byte 13.
 // specs/Input.antt says which lines an input has, in whatever pieces it is read.
+#![tactic(auto)]
+
 ghost use Rattle.std.specs.Prelude.{◌≡◌, List, [], ◌∷◌, ◌++◌, ℕ, ◌+◌, length};
 ghost use Rattle.line_input.specs.Input.{bare as Input·bare, held_bytes, Holds};
 

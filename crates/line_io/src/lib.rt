@@ -1,5 +1,7 @@
 // Standard output and standard input: nothing is lost in silence. A write or a read that cannot be done is tried again where that helps, a
 // bounded number of times, and else a line goes to standard error and the caller is told to stop. Which bytes go or come, no contract says.
+#![tactic(auto)]
+
 ghost use Rattle.std.specs.Prelude.{◌≤◌, ◌<◌, ◌+◌, ◌≡◌, ◌⊎◌, length};
 
 // How often a write or a read that would have to wait is tried again, and how often the processor is left to others before each. By how busy

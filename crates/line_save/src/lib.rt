@@ -1,5 +1,7 @@
 // `save-off S PATH`: a shape of the desk, written to a file as an OFF text: beside the path first, and in its place when all of it is there.
 // No contract says what the system does with the bytes; what is promised is that those handed over are the text of the shape that is named.
+#![tactic(auto)]
+
 ghost use Rattle.desk_state.specs.Desk.{desk_of};
 ghost use Rattle.line_save.specs.Saving.{Saves};
 

@@ -1,5 +1,7 @@
 // `spoil PART I V` puts V into cell I of a lent part as it stands, so that a script can hand in a desk that is not in order.
 // It is no command where there is no such cell or V does not fit it.
+#![tactic(auto)]
+
 ghost use Rattle.std.specs.Prelude.{pos, get_or};
 ghost use Rattle.line.specs.Behind.{behind, Finds};
 ghost use Rattle.line_spoil.specs.Cells.{parts, NoCell, CellAt, CellOf};

@@ -1,5 +1,7 @@
 // What the desk can be told by a line: its command, with the corner numbers that stand behind the line's first number or in a file.
 // The numbers are handed on as they stand there; the desk refuses what it does not take.
+#![tactic(auto)]
+
 ghost use Rattle.std.specs.Prelude.{◌≡◌, [], min, length, get_or};
 ghost use Rattle.limits.specs.Limits;
 ghost use Rattle.desk_state.specs.Desk.{desk_of};

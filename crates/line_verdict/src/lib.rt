@@ -1,5 +1,7 @@
 // The answer to the pair question, of two places or of two lists: a refusal's number, or the verdict and what it carries.
 // Direction, pairs and weights are printed as they were answered.
+#![tactic(auto)]
+
 use line::out;
 
 // An answer carries the first `count` of this many pairs.

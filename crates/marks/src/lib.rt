@@ -1,5 +1,7 @@
 // End marks: document 01's order of marks, and their keys: one unsigned number a mark, made once from an axis's values and compared ever after.
 // One lent buffer has the marks, each axis in its own part: `marks_test` tests whether it is in place, `marks_keep` keeps it so.
+#![tactic(auto)]
+
 ghost use Rattle.std.specs.Prelude.{◌≡◌, ◌<◌};
 ghost use Rattle.limits.specs.Limits;
 ghost use Rattle.ints.specs.Bounds.{Within};

@@ -1,5 +1,7 @@
 // The count of a move: what changes its order when one piece's marks get new values.
 // Over the three axes, by the keys of the marks before and after.
+#![tactic(auto)]
+
 ghost use Rattle.std.specs.Prelude.{◌<◌};
 ghost use Rattle.limits.specs.Limits;
 ghost use Rattle.marks.specs.Promises.{CountedMarks};

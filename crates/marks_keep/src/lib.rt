@@ -1,5 +1,7 @@
 // The marks buffer kept in place while one place is placed, moved or removed: each of its marks slides to where its new key belongs.
 // A place that is no longer taken has NO_KEY: its marks are carried past all others, and what is left there is no mark.
+#![tactic(auto)]
+
 ghost use Rattle.std.specs.Prelude.{◌≡◌, cond, ◌++◌, ◌-◌, ◌<◌, ◌≤◌, length, take, replicate};
 ghost use Rattle.limits.specs.Limits;
 ghost use Rattle.marks.specs.Keys.{key_of};

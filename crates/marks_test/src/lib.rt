@@ -1,5 +1,7 @@
 // The order test of the marks buffer: in each axis's part as many marks as there are keys, their keys climbing, and no mark after them.
 // The keys are distinct, so that many climbing marks are all of them.
+#![tactic(auto)]
+
 ghost use Rattle.std.specs.Prelude.{◌≡◌, ◌≤◌};
 ghost use Rattle.limits.specs.Limits;
 ghost use Rattle.marks.specs.Keys.{key_of};

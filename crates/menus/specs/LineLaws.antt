@@ -2,7 +2,7 @@
 -- So two parts that are allowed for the same texts and number are the same part (`shown_once`).
 use Rattle.std.specs.Prelude.{ℕ, ◌≤◌, ◌<◌, ◌≡◌, refl, List, [], Bool, true, false, ◌↔◌, length, get_or}
 use Rattle.std.proofs.Common.{sym, ap, ◌∙◌, subst, inl, inr, arith}
-use Rattle.text_cut.specs.CutLaws.{cut_is}
+use Rattle.text_cut.proofs.CutLaws.{cut_is}
 use Rattle.menus.specs.Lines.{line_byte, start_in, Line, Missing, MissingOrEmpty, Text, from, Shown, of_translated, of_english, of_neither}
 use Rattle.menus.specs.Scan.{lines_of}
 

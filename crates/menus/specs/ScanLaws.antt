@@ -6,7 +6,7 @@ use Rattle.std.proofs.Math.Path.{ap}
 use Rattle.std.proofs.Math.Logic.{ite, if_pos, if_neg}
 use Rattle.std.proofs.Math.Decide.{dec_lt}
 use Rattle.std.proofs.Math.ListN.{length, get_or-eq_default}
-use Rattle.text_cut.specs.CutLaws.{first-none, first_take, first_le, parts_last, parts_next, is_cut}
+use Rattle.text_cut.proofs.CutLaws.{first-none, first_take, first_le, parts_last, parts_next, is_cut}
 use Rattle.menus.specs.Lines.{line_byte, start_in, Line, Missing, MissingOrEmpty, Full, Text, from, Shown, of_translated, of_english, of_neither}
 use Rattle.menus.specs.LineLaws.{line-is}
 use Rattle.menus.specs.Scan.{lines_of, first_line, line_of, start_of}

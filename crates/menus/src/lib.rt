@@ -1,5 +1,7 @@
 // Menu lines: a line of the translated text, or of the English one (document 01, "Menu lines").
 // The texts may be any bytes, also none, and the number of the line any: what is handed back is a part of one of the two.
+#![tactic(auto)]
+
 ghost use Rattle.std.specs.Prelude.{◌≡◌, true, ◌↔◌};
 ghost use Rattle.menus.specs.Lines.{Full, from, Shown};
 ghost use Rattle.menus.specs.Scan.{line_of, start_of};

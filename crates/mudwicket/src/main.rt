@@ -1,5 +1,7 @@
 // The desk at a command line: reads commands from standard input, one a line, and writes one line of answer for each.
 // `run` reads, feeds and writes; `line_feed::feed` cuts the lines out of what was read, and `line_answer::answer` answers each.
+#![tactic(auto)]
+
 mod words;
 
 ghost use Rattle.std.specs.Prelude.{◌≡◌, List, false, ℕ, ◌≤◌, ◌<◌, length, get_or};

@@ -2,7 +2,7 @@
 -- So two answers that are allowed for one word are equal (`read_once_lem`).
 use Rattle.std.specs.Prelude.{ℕ, ◌≤◌, ◌*◌, ◌≡◌, refl, Bool, true, false, List, [], ◌∷◌, ◌++◌, ◌⊎◌, ℤ, length, get_or}
 use Rattle.std.proofs.Common.{sym, ap, ap₂, ◌∙◌, subst, ⊎_elim, arith}
-use Rattle.limits.specs.LowestLaws.{lowest_once}
+use Rattle.limits.proofs.LowestLaws.{lowest_once}
 use Rattle.scans.specs.Floats.{with_sign}
 use Rattle.scans.specs.Once.{zero_or}
 use Rattle.text_digits.specs.Decimal.{Digit, Digits, Decimal, value_in}

@@ -1,5 +1,7 @@
 // A word of an OFF text as a number of steps (document 02, W7): an optional minus, digits, and optionally a point and 1 to 6 digits.
 // The word may be any bytes, of any length: what is no number, or no whole number of steps, or too large, is refused by number. Writing stands in `shortest`.
+#![tactic(auto)]
+
 ghost use Rattle.std.specs.Prelude.{◌≡◌, ℕ, ◌≤◌, ◌<◌, ◌+◌, ◌-◌, ◌*◌, ◌^◌, min, pos, neg_ℤ};
 ghost use Rattle.limits.specs.Limits;
 ghost use Rattle.text_digits.specs.Decimal.{cut};

@@ -8,7 +8,7 @@ use Rattle.std.proofs.lemmas.List.{set_at, get_or_at}
 use Rattle.std.proofs.Math.Seq.{append_snoc}
 use Rattle.limits.specs.Limits
 use Rattle.limits.specs.Lowest.{Lowest}
-use Rattle.limits.specs.LowestLaws.{lowest_once}
+use Rattle.limits.proofs.LowestLaws.{lowest_once}
 use Rattle.scans.specs.Once.{zero_or}
 use Rattle.off_number.specs.OffNumber.{InSteps}
 use Rattle.off_number.specs.OffNumberLaws.{steps_once}

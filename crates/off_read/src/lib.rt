@@ -1,5 +1,7 @@
 // OFF texts read into corners (document 02, W7): the corners' numbers in steps at the start of lent room, or a refusal and the room as it was.
 // Two passes and no copy of the text: the first tells the refusal of the whole text, the second writes.
+#![tactic(auto)]
+
 ghost use Rattle.std.specs.Prelude.{◌*◌, ◌≤◌, ◌≡◌, false, length, drop};
 ghost use Rattle.limits.specs.Limits;
 ghost use Rattle.limits.specs.Decides.{Decides};

@@ -5,7 +5,7 @@ use Rattle.std.proofs.Common.{sym, ap, ap₂, ◌∙◌, subst, inl, inr, arith,
 use Rattle.std.proofs.lemmas.List.{length-map}
 use Rattle.limits.specs.Limits
 use Rattle.limits.specs.Lowest.{Lowest}
-use Rattle.limits.specs.LowestLaws.{lowest_once}
+use Rattle.limits.proofs.LowestLaws.{lowest_once}
 use Rattle.space.specs.Lists.{LengthFits, InReach}
 use Rattle.text_digits.specs.Decimal.{number}
 use Rattle.text_put.specs.Print.{digits_of}

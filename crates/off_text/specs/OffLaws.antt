@@ -4,7 +4,7 @@ use Rattle.std.specs.Prelude.{ℕ, suc, ◌≤◌, ◌≡◌, refl, Bool, true, 
 use Rattle.std.proofs.Common.{sym, ap, ◌∙◌, subst, arith, ne_eqb, eqb-true}
 use Rattle.std.proofs.Math.Decide.{ℕ_discrete}
 use Rattle.text_cut.specs.Cuts.{onto, first_part}
-use Rattle.text_cut.specs.CutLaws.{first-none, first_cut, first_more}
+use Rattle.text_cut.proofs.CutLaws.{first-none, first_cut, first_more}
 use Rattle.off_text.specs.Off.{outside, inside, white, stretches, full, words_in, word_at}
 use Rattle.off_text.specs.Walk.{plain, run}
 

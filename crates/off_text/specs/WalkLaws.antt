@@ -4,7 +4,7 @@ use Rattle.std.specs.Prelude.{ℕ, suc, ◌+◌, ◌-◌, ◌≤◌, ◌<◌, mi
 use Rattle.std.proofs.Common.{sym, ap, ◌∙◌, subst, inl, inr, add-one, arith, ne_eqb, drop_of_length-le, drop-cons, drop-drop}
 use Rattle.std.proofs.Math.Decide.{ℕ_discrete, dec_lt}
 use Rattle.text_cut.specs.Cuts.{first_part}
-use Rattle.text_cut.specs.CutLaws.{first_more}
+use Rattle.text_cut.proofs.CutLaws.{first_more}
 use Rattle.off_text.specs.Off.{outside, HasComma, CommaOutside, white, full, stretches, words_in, word_at}
 use Rattle.off_text.specs.OffLaws.{outside_comment, outside_byte, run_more, run_stop, run_none, words_white, words_none, words_run}
 use Rattle.off_text.specs.Walk.{plain, run, PassedAs, StartAs, NextAs}

@@ -1,5 +1,7 @@
 // OFF texts, word by word (document 02, W7): a comma outside comments, the next word, counts, and whether the faces are right.
 // A text may be any bytes, of any length. A place is never inside a comment, and nothing is copied.
+#![tactic(auto)]
+
 ghost use Rattle.std.specs.Prelude.{◌+◌, ◌≤◌, ◌<◌, ◌*◌, ◌-◌, min, ◌≡◌, length, drop};
 ghost use Rattle.limits.specs.Decides.{Decides};
 ghost use Rattle.text_digits.specs.Decimal.{Digit, Digits, number};

@@ -1,5 +1,7 @@
 // A shape's corners written as an OFF text (document 02, W7), at the start of lent room: all of it, or nothing where the room is too short.
 // The text is made in a room of our own first, which holds the longest that there is.
+#![tactic(auto)]
+
 ghost use Rattle.std.specs.Prelude.{◌≤◌, ◌+◌, ◌*◌, [], ◌∷◌, ◌++◌, length};
 ghost use Rattle.ints.specs.Bounds.{Within};
 ghost use Rattle.limits.specs.Limits;

@@ -1,5 +1,7 @@
 // Whether the shapes and the places are in order: document 01, "A desk is in order when loaded shapes and taken places keep the ranges above".
 // Numbers past a shape's last corner, and an empty place's turn and offset, are not looked at.
+#![tactic(auto)]
+
 ghost use Rattle.std.specs.Prelude.{◌≡◌, [], ◌+◌, ◌≤◌, ◌<◌, length};
 ghost use Rattle.limits.specs.Limits;
 ghost use Rattle.limits.specs.Decides.{Decides};

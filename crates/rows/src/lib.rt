@@ -1,5 +1,7 @@
 // The rows of a desk as a lent array (document 01, "Rows"): their order and their changes.
 // The row of the places low < high stands at low * PLACES + high; every other cell holds NO_ROW.
+#![tactic(auto)]
+
 ghost use Rattle.std.specs.Prelude.{◌≡◌, ℕ, ◌<◌, eqb, length, get_or, replicate};
 ghost use Rattle.limits.specs.Limits;
 ghost use Rattle.limits.specs.Decides.{Decides};

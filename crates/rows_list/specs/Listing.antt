@@ -5,7 +5,7 @@ use Rattle.std.proofs.Common.{sym, ap, ap₂, ◌∙◌, append_assoc, append-ni
 use Rattle.std.proofs.lemmas.List.Edits.{sets, sets-eq}
 use Rattle.std.proofs.Math.Seq.{take-append_seam, drop-append-add}
 use Rattle.limits.specs.Limits
-use Rattle.limits.specs.LowestLaws.{lowest_once}
+use Rattle.limits.proofs.LowestLaws.{lowest_once}
 use Rattle.rows.specs.Rows.{PairOf, RowsInOrder, cell}
 use Rattle.ints.specs.Counts.{one_if}
 use Rattle.rows_list.specs.Contacts.{contact, only_if, listed, contacts_from, contacts, refusals, Lists}

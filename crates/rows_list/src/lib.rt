@@ -1,5 +1,7 @@
 // The listing of contacts: the rows 2 and 3, three bytes each, in rising order of the two places, into lent room.
 // The rows that are listed are counted before anything is written, so that room that is too short stays as it was.
+#![tactic(auto)]
+
 ghost use Rattle.std.specs.Prelude.{◌≡◌, ◌++◌, ◌≤◌, ◌<◌, ◌+◌, ◌*◌, length, drop};
 ghost use Rattle.std.proofs.lemmas.List.Edits.{sets};
 ghost use Rattle.limits.specs.Limits;

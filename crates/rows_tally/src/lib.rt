@@ -1,5 +1,7 @@
 // The tallies of a desk as a lent array, its book (document 01, "Rows"): whether they count the rows, counted afresh, and followed as rows change.
 // A verdict is counted in the cell of its number; the gap of W6 has a cell of its own, and the rest of the book is 0.
+#![tactic(auto)]
+
 ghost use Rattle.std.specs.Prelude.{◌≡◌, ◌+◌, ◌≤◌, ◌<◌, eqb, length, take};
 ghost use Rattle.limits.specs.Limits;
 ghost use Rattle.limits.specs.Decides.{Decides};

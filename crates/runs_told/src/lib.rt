@@ -1,5 +1,7 @@
 // Runs of commands told: from a desk, by any number of codes one after the other, to a desk that holds what the accepted ones put.
 // The theorem stands in crate `runs`; `run` carries it as its contract.
+#![tactic(auto)]
+
 pub mod tell;
 
 ghost use Rattle.std.specs.Prelude.{◌≡◌, ◌≤◌, length};

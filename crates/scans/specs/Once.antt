@@ -12,7 +12,7 @@ use Rattle.std.specs.Float.Ieee.Nearest.{div_same}
 use Rattle.ints.specs.Order.{≡-cancel}
 use Rattle.limits.specs.Limits
 use Rattle.limits.specs.Lowest.{◌when◌}
-use Rattle.limits.specs.LowestLaws.{lowest_once}
+use Rattle.limits.proofs.LowestLaws.{lowest_once}
 use Rattle.scans.specs.Floats.{InSteps, refusals}
 use Rattle.scans.specs.Scanned.{ScannedAs, One, PointAs}
 use Rattle.scans.specs.Shown.{ShownAs, PatternOf}

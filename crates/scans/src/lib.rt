@@ -1,5 +1,7 @@
 // Floats to steps and back: scanned points, by their bit patterns, and the millimetres shown.
 // A float is in millimetres, IEEE 754 binary32; a step is a 64th of a millimetre.
+#![tactic(auto)]
+
 ghost use Rattle.std.specs.Prelude.{◌/◌, ◌%◌, ◌≤◌, ◌<◌, ◌≡◌};
 ghost use Rattle.std.specs.Float.{binary32};
 ghost use Rattle.std.specs.Float.Ieee.{of_bits, of_fields};

@@ -5,7 +5,7 @@ use Rattle.std.proofs.Common.{sym, ap, ◌∙◌, subst, inl, inr, ⊎_elim, ari
 use Rattle.ints.specs.Order.{lt-or-ge}
 use Rattle.limits.specs.Limits
 use Rattle.limits.specs.Lowest.{Lowest, Positive}
-use Rattle.limits.specs.LowestLaws.{positive, lowest_first, lowest_then, lowest_once}
+use Rattle.limits.proofs.LowestLaws.{positive, lowest_first, lowest_then, lowest_once}
 use Rattle.limits.specs.DecidesLaws.{holds, fails, decides_once}
 use Rattle.scans.specs.Floats.{refusals}
 use Rattle.scans.specs.Lower.{same_floats}

@@ -1,5 +1,7 @@
 // Files of the scanner, binary STL: one triangle after another, each corner's floats read by their bit patterns.
 // A step is a function of the file and a position; the reader keeps the two together.
+#![tactic(auto)]
+
 ghost use Rattle.std.specs.Prelude.{◌+◌, ◌*◌, ◌≤◌, ◌<◌, ◌≡◌, cond, length};
 ghost use Rattle.limits.specs.Lowest.{Lowest};
 ghost use Rattle.limits.specs.Decides.{Decides};

@@ -4,7 +4,7 @@ use Rattle.std.specs.Prelude.{ℕ, ◌≡◌, refl, List, ◌++◌, ◌⊎◌, �
 use Rattle.std.proofs.Common.{sym, ◌∙◌, ⊎_elim, arith}
 use Rattle.limits.specs.Limits
 use Rattle.limits.specs.Lowest.{Lowest}
-use Rattle.limits.specs.LowestLaws.{positive, lowest_first, lowest_then, lowest_once}
+use Rattle.limits.proofs.LowestLaws.{positive, lowest_first, lowest_then, lowest_once}
 use Rattle.scans.specs.Floats.{refusals}
 use Rattle.scans.specs.Once.{zero_or}
 use Rattle.scans_stl.specs.Stl.{file_corners, AnyOf, file_refusals}

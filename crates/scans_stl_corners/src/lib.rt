@@ -1,5 +1,7 @@
 // Shapes from the scanner's files: the corners of a whole file, each once, written to lent room.
 // They are collected in a room of our own first, so that a refused file leaves the lent one as it was.
+#![tactic(auto)]
+
 ghost use Rattle.std.specs.Prelude.{◌+◌, ◌*◌, ◌≤◌, ◌<◌, ◌≡◌, [], ◌∷◌, ◌++◌, length, drop};
 ghost use Rattle.limits.specs.Limits;
 ghost use Rattle.scans_stl.specs.Stl.{first_at, triangle_bytes, triangle_count};

@@ -1,5 +1,7 @@
 // Points and directions of whole numbers: the kernels of the verdict's arithmetic, each with its exact value and its range.
 // The ranges are those of the walk (specs/Ranges.antt); the kernels are internal to the project, and every caller meets them.
+#![tactic(auto)]
+
 ghost use Rattle.std.specs.Prelude.{◌≡◌};
 ghost use Rattle.ints.specs.Sign.{lex};
 ghost use Rattle.space.specs.Vectors.{dot, cross, minus, plus, opposite, det};

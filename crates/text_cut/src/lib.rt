@@ -1,5 +1,7 @@
 // A text cut at a byte: where the part ends that starts at a place. Lines are cut at byte 10, words at the space.
 // What is read of a text may be any bytes, and the place any number.
+#![tactic(auto)]
+
 ghost use Rattle.std.specs.Prelude.{◌≡◌, ◌≤◌, ◌+◌, min, length, drop};
 ghost use Rattle.text_cut.specs.Cuts.{first_part};
 

@@ -1,5 +1,7 @@
 // Decimal numbers as text: what digits name, for typed lengths, numbers of a line and of a file, and what is printed.
 // One function says whether a byte is a digit, and one reads the digits that stand at a place.
+#![tactic(auto)]
+
 ghost use Rattle.std.specs.Prelude.{◌≡◌, true, ◌↔◌, ◌≤◌, ◌+◌, ◌-◌, ◌*◌, min, length, drop};
 ghost use Rattle.text_digits.specs.Decimal.{Digit, number, cut};
 ghost use Rattle.text_digits.specs.DecimalLaws.{leading};

@@ -1,5 +1,7 @@
 // Words of hex digits of either case: a bit pattern of 8 digits, and a text of two digits a byte, or a `-` for the text of no bytes.
 // A text is measured before it is decoded, so that the lent room stays as it was where the word is no text.
+#![tactic(auto)]
+
 ghost use Rattle.std.specs.Prelude.{◌≡◌, true, ◌↔◌, ◌≤◌, ◌<◌, ◌+◌, ◌*◌, length, [], ◌∷◌};
 ghost use Rattle.std.proofs.Math.Seq.{paste};
 ghost use Rattle.text_hex.specs.Hex.{in_range, worth_of, HexDigits, bytes_of, PatternReads, TextReads, Measured};

@@ -1,5 +1,7 @@
 // One word as a number: an optional minus and 1 to 10 digits, that fits 32 bits signed.
 // The digits are read without a sign, into a type that holds ten of them.
+#![tactic(auto)]
+
 ghost use Rattle.std.specs.Prelude.{◌≡◌};
 ghost use Rattle.text_number.specs.Numbers.{Reads};
 ghost use Rattle.text_number.specs.Magnitude.{Magnitude, below_zero, not_below_zero};

@@ -1,5 +1,7 @@
 // Bytes, numbers and hex put into lent room at a place, with the next place handed back.
 // All of it is put, or nothing where the room is too short: then the place handed back is the one that was given.
+#![tactic(auto)]
+
 ghost use Rattle.std.specs.Prelude.{◌≡◌, ◌∷◌, nat_abs};
 ghost use Rattle.text_put.specs.Print.{Put, PutNumber, PutHex};
 

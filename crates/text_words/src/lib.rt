@@ -1,5 +1,7 @@
 // The words of a line, which exactly one space separates: where a word ends, and a run of words that are numbers.
 // A line is cut at each space, so a space at either end and a double space leave an empty word, which is no number.
+#![tactic(auto)]
+
 ghost use Rattle.std.specs.Prelude.{◌≡◌, ◌≤◌, ◌+◌, min, length, drop};
 ghost use Rattle.text_words.specs.Words.{first_word, Listed};
 

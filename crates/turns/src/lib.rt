@@ -1,5 +1,7 @@
 // The 24 turns: a constant table of signed permutations, and the kernels that turn and place one coordinate of a corner.
 // specs/Turns.antt has document 01's numbering; the table's rule is proved once over all entries.
+#![tactic(auto)]
+
 ghost use Rattle.std.specs.Prelude.{◌≡◌, ◌<◌, nat_abs};
 ghost use Rattle.limits.specs.Limits;
 ghost use Rattle.ints.specs.Bounds.{Within};

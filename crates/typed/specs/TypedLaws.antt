@@ -3,7 +3,7 @@
 use Rattle.std.specs.Prelude.{ℕ, ◌*◌, ◌≡◌, refl, List}
 use Rattle.std.proofs.Common.{sym, ap, ap₂, ◌∙◌, subst, inl, inr, arith}
 use Rattle.limits.specs.Limits
-use Rattle.limits.specs.LowestLaws.{lowest_once}
+use Rattle.limits.proofs.LowestLaws.{lowest_once}
 use Rattle.text_digits.specs.Decimal.{Digit, value_in}
 use Rattle.text_digits.specs.DecimalLaws.{decimal_once}
 use Rattle.typed.specs.TypedLength.{CommaOrPoint, Hundredths, RoundedUp, LengthInSteps, number_of, refusals, LengthAnswers}

@@ -1,5 +1,7 @@
 // Typed lengths: a text, as a person types it at the menu, to steps (document 01, "Lengths that arrive as text or as floats").
 // The text may be any bytes, of any length: what is not a typed length is refused by number.
+#![tactic(auto)]
+
 ghost use Rattle.std.specs.Prelude.{◌≡◌, true, ◌↔◌, ◌≤◌, ◌<◌, ◌+◌, ◌-◌, ◌*◌, ◌^◌, length, get_or, drop};
 ghost use Rattle.limits.specs.Limits;
 ghost use Rattle.text_digits.specs.Decimal.{cut};

@@ -4,7 +4,7 @@ use Rattle.std.specs.Prelude.{◌≡◌, ℕ, ◌≤◌, ℤ}
 use Rattle.std.proofs.Common.{sym, ap, ◌∙◌, arith, ext_get_or}
 use Rattle.std.proofs.Math.Decide.{ℕ_discrete}
 use Rattle.limits.specs.Limits.{done}
-use Rattle.limits.specs.LowestLaws.{lowest_once}
+use Rattle.limits.proofs.LowestLaws.{lowest_once}
 use Rattle.space.specs.Verdicts.{Piece, separate}
 use Rattle.space.specs.Exclusion.{verdict_once}
 use Rattle.verdict_walk.specs.NoPairs.{no_pair, no_pairs}

@@ -1,5 +1,7 @@
 // The verdict of two corner lists with a gap between them, exact and with witnesses: two walks at most, and what their ends say.
 // No tolerance and no limit on the rounds: a measure falls with each of them (crate `verdict_walk`, specs/Ends.antt).
+#![tactic(auto)]
+
 ghost use Rattle.std.specs.Prelude.{◌≡◌, ◌≤◌, nat_abs};
 ghost use Rattle.limits.specs.Decides.{Decides};
 ghost use Rattle.limits.specs.Limits.{gap_most};

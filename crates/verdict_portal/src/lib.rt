@@ -1,5 +1,7 @@
 // One round of the walk: which corner of the portal the new point replaces, or that the origin is met.
 // All signs are of small numbers; specs/ shows what they say of the shifted points, of which the walk's proof speaks.
+#![tactic(auto)]
+
 ghost use Rattle.std.specs.Prelude.{◌≡◌, pos};
 ghost use Rattle.std.specs.Int.Signed.{lt_z};
 ghost use Rattle.space.specs.Vectors.{cross};

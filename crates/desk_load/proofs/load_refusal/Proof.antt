@@ -7,7 +7,7 @@ use native.Mathlib.Omega.{arith}
 use lib.IntN.{nat_abs}
 use Rattle.limits.specs.Limits
 use Rattle.limits.specs.Lowest.{◌when◌}
-use Rattle.limits.specs.LowestLaws.{positive, lowest_first}
+use Rattle.limits.proofs.LowestLaws.{positive, lowest_first}
 use Rattle.limits.specs.Numbered.{Numbered}
 use Rattle.pieces.specs.Pieces.{Loaded, store_of}
 use Rattle.pieces.specs.IndexLaws.{cell_indexed}

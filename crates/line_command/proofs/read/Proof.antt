@@ -5,7 +5,7 @@ use Prim.Native.Nat.{ℕ, ◌-◌}
 use native.Mathlib.Omega.{arith}
 use lib.ListN.{length, take}
 use Rattle.text_words.specs.Words.{space_byte, first_word}
-use Rattle.text_cut.specs.CutLaws.{first_take}
+use Rattle.text_cut.proofs.CutLaws.{first_take}
 use Rattle.line_command.specs.LineLaws.{of_line}
 use Rattle.line_command.proofs.read.Statement.{statement}
 use Rattle.line_command.proofs.read.Tie as tie

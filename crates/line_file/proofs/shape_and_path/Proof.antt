@@ -7,7 +7,7 @@ use mir.Syntax.{w32}
 use mir.Facts.{to_z-of_z}
 use lib.ListN.{length, take, drop}
 use Rattle.ints.specs.Bounds.{fits_in}
-use Rattle.text_cut.specs.CutLaws.{first_take}
+use Rattle.text_cut.proofs.CutLaws.{first_take}
 use Rattle.text_words.specs.Words.{space_byte, first_word}
 use Rattle.text_number.specs.Numbers.{Reads}
 use Rattle.line_file.specs.Requests.{NamesShape}

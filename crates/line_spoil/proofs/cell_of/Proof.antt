@@ -6,7 +6,7 @@ use Prim.Native.Nat.{ℕ, ◌+◌, ◌-◌}
 use native.Mathlib.Omega.{arith}
 use lib.IntN.{pos}
 use lib.ListN.{length, get_or, take, drop}
-use Rattle.text_cut.specs.CutLaws.{first_take}
+use Rattle.text_cut.proofs.CutLaws.{first_take}
 use Rattle.text_words.specs.Words.{space_byte, first_word}
 use Rattle.line.specs.Behind.{behind, NumbersIn}
 use Rattle.line.specs.BehindLaws.{behind_none, next-is}

@@ -7,7 +7,7 @@ use mathlib.Core.Path.{◌≡◌, refl, ◌∙◌, subst}
 use native.Mathlib.Omega.{arith}
 use mir.Syntax.{w32}
 use mir.ValLaws.{to_z-of_z}
-use Rattle.limits.specs.LowestLaws.{lowest_once}
+use Rattle.limits.proofs.LowestLaws.{lowest_once}
 use Rattle.off_number.specs.OffNumber.{word_refusals, NumberReadAs}
 use Rattle.off_text.specs.FaceLaws.{word-is, words_after}
 use Rattle.off_text.specs.Off.{words_in, word_at}

@@ -16,7 +16,7 @@ use Rattle.ints.specs.Bounds.{fits_in}
 use Rattle.text_number.specs.Numbers.{Reads}
 use Rattle.text_number.specs.NumberLaws.{empty_bad}
 use Rattle.text_words.specs.Words.{space_byte, first_word, words_of}
-use Rattle.text_cut.specs.CutLaws.{first_le, first_take, parts_none, parts_last, parts_next}
+use Rattle.text_cut.proofs.CutLaws.{first_le, first_take, parts_none, parts_last, parts_next}
 use Rattle.text_words.specs.ReadLaws.{Done, done_none, done_length, done_bad, done_full, done_more, done_last}
 use Rattle.text_number.specs.declared.Number.{Number}
 use Rattle.text_number.specs.declared.Number.TheVariants.{Value}

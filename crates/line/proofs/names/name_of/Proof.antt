@@ -8,7 +8,7 @@ use mathlib.Core.List.{List, ◌∷◌}
 use native.Mathlib.Omega.{arith}
 use lib.ListN.{length, take, drop}
 use Rattle.text_words.specs.Words.{space_byte, first_word}
-use Rattle.text_cut.specs.CutLaws.{first_take}
+use Rattle.text_cut.proofs.CutLaws.{first_take}
 use Rattle.line.specs.Behind.{behind}
 use Rattle.line.specs.BehindLaws.{behind_none, next-is}
 use Rattle.line.specs.NamedLaws.{Leaves, name_first, name_here, name_next, name_none}

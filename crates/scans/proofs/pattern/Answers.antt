@@ -6,8 +6,7 @@ use lib.Ieee.Bits.{of_bits-to_bits}
 use lib.Ieee.{Float, nan, inf, fin, binary32, to_bits, of_bits, ne, is_nan}
 use lib.Dec.{T}
 use Rattle.scans.specs.Shown.{PatternOf}
-use Rattle.scans.proofs.pattern.Statement.{statement}
-use Rattle.scans.proofs.pattern.Tie as tie
+use Rattle.scans.proofs.pattern.Goals as goal
 
 no_nan : (x : Float) → ne x x ≡ false → T (not (is_nan x))
 unfolding ne is_nan
@@ -19,18 +18,15 @@ nan_pattern : PatternOf nan 2143289344
 unfolding to_bits of_bits
 nan_pattern = record { written = refl; read = refl }
 
-returns : tie.Need-returns
+pub returns-then-x : goal.returns-then-x
+returns-then-x c =
+    let x = c.args.x in
+    subst (λ (x : Float). PatternOf x 2143289344) (sym (differs_from_itself x (subst T (sym c.if-x.true) tt))) nan_pattern
+
+pub float_to_bits-result : goal.float_to_bits-result
+float_to_bits-result c = no_nan c.args.x c.if-x.false
+
+pub returns : goal.returns
 returns c =
-    let x = c.before.args.x in
-    subst (λ (x : Float). PatternOf x 2143289344) (sym (differs_from_itself x (subst T (sym c.if1.true) tt))) nan_pattern
-
-float-to-bits-result : tie.Need-float-to-bits-result
-float-to-bits-result c = no_nan c.before.args.x c.if1.false
-
-returns-2 : tie.Need-returns-2
-returns-2 c =
-    let x = c.before.args.x in
-    record { written = refl; read = of_bits-to_bits binary32 x (subst T (sym c.before.well-formed.0.1) tt) }
-
-pub pattern-spec : {M : Type 1} → statement M
-pattern-spec = tie.close (tie.spec returns float-to-bits-result returns-2)
+    let x = c.args.x in
+    record { written = refl; read = of_bits-to_bits binary32 x (subst T (sym c.well_formed.0.1) tt) }

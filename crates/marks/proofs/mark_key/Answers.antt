@@ -11,8 +11,7 @@ use Rattle.limits.specs.Limits
 use Rattle.ints.specs.Bounds.{Within, known, fits, worth}
 use Rattle.marks.specs.Keys.{raised}
 use Rattle.marks.specs.Order.{raised_most, raised_sign}
-use Rattle.marks.proofs.mark_key.Statement.{statement}
-use Rattle.marks.proofs.mark_key.Tie as tie
+use Rattle.marks.proofs.mark_key.Goals as goal
 
 sum_fits : (v : ℤ) → Within Limits.placed_reach v → SFits w32 (to_z w32 (of_z w32 v) +ℤ pos Limits.placed_reach)
 sum_fits v h = fits (search known depth 15) tt
@@ -23,31 +22,27 @@ sum v h = worth (search known depth 15) tt
 size : (v : ℤ) → Within Limits.placed_reach v → nat_abs (to_z w32 (of_z w32 (to_z w32 (of_z w32 v) +ℤ pos Limits.placed_reach))) ≡ raised v
 size v h = ap nat_abs (sum v h)
 
-add-up : tie.Need-overflow-add-up
-add-up c = sum_fits c.args.value c.requires.0
+pub overflow_add-up : goal.overflow_add-up
+overflow_add-up c = sum_fits c.args.value c.requires.0
 
-cast-raised : tie.Need-overflow-cast-raised
-cast-raised c =
+pub overflow_cast-raised : goal.overflow_cast-raised
+overflow_cast-raised c =
     (subst (λ (z : ℤ). T (non_neg z)) (sym (sum c.args.value c.requires.0)) (raised_sign c.args.value c.requires.0), omega (arith, size c.args.value c.requires.0, raised_most c.requires.0))
 
-mul-key : tie.Need-overflow-mul-key
-mul-key c = omega (arith, size c.args.value c.requires.0, raised_most c.requires.0)
+pub overflow_mul-key : goal.overflow_mul-key
+overflow_mul-key c = omega (arith, size c.args.value c.requires.0, raised_most c.requires.0)
 
-add-key : tie.Need-overflow-add-key
-add-key c = omega (arith, size c.args.value c.requires.0, raised_most c.requires.0)
+pub overflow_add-key : goal.overflow_add-key
+overflow_add-key c = omega (arith, size c.args.value c.requires.0, raised_most c.requires.0)
 
-mul-key-2 : tie.Need-overflow-mul-key-2
-mul-key-2 c = omega (arith, size c.args.value c.requires.0, raised_most c.requires.0)
+pub overflow_mul-key-2 : goal.overflow_mul-key-2
+overflow_mul-key-2 c = omega (arith, size c.args.value c.requires.0, raised_most c.requires.0)
 
-add-key-2 : tie.Need-overflow-add-key-2
-add-key-2 c = omega (arith, size c.args.value c.requires.0, raised_most c.requires.0)
+pub overflow_add-key-2 : goal.overflow_add-key-2
+overflow_add-key-2 c = omega (arith, size c.args.value c.requires.0, raised_most c.requires.0)
 
-cast-result : tie.Need-overflow-cast-result
-cast-result c = omega (arith, size c.args.value c.requires.0, raised_most c.requires.0)
+pub overflow_cast-result : goal.overflow_cast-result
+overflow_cast-result c = omega (arith, size c.args.value c.requires.0, raised_most c.requires.0)
 
-returns : tie.Need-returns
+pub returns : goal.returns
 returns c = ap (λ (r : ℕ). (r * 2 + c.args.mark % 2) * Limits.places + c.args.mark / 2) (size c.args.value c.requires.0)
-
-pub mark-key-spec : {M : Type 1} → statement M
-mark-key-spec =
-    tie.close (tie.spec add-up cast-raised mul-key add-key mul-key-2 add-key-2 cast-result returns)

@@ -1,0 +1,11 @@
+-- `scan_point` meets its contract: each pattern is read as the float that it was written for.
+use borrow.Author.Rules.{rules}
+use mathlib.Core.Path.{subst}
+use Rattle.scans.specs.declared.Point.{Point}
+use Rattle.scans.specs.Scanned.{PointAs}
+use Rattle.scans.proofs.scan_point.Goals as goal
+
+pub returns : goal.returns
+returns c =
+    subst (λ (p : Point). PointAs p c.scan_patterns.result)
+    (λ i. record { x = c.pattern-x.ensures.read i; y = c.pattern-y.ensures.read i; z = c.pattern-z.ensures.read i }) c.scan_patterns.ensures
