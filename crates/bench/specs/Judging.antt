@@ -5,9 +5,10 @@ use Rattle.std.proofs.Common.{sym, ap, ◌∙◌, subst, inl, inr, ⊎_elim, ltb
 use mathlib.Core.List.Memᴰ
 use mathlib.Core.List.{List, [], ◌∷◌, Memᴰ}
 use Rattle.std.specs.Int.Signed.{le_z, lt_z, le_z_yes, lt_z_yes, <ℤ_irrefl}
-use Rattle.ints.specs.Quote.{sides, by_ring}
-use Rattle.ints.specs.Order.{≤ℤ-antisymm, eq_comb, z_diff}
-use Rattle.ints.specs.Sign.{gt_other}
+use Rattle.ints.proofs.Quote.{sides, by_ring}
+use Rattle.ints.specs.Order.{≤ℤ-antisymm}
+use Rattle.ints.proofs.OrderLaws.{eq_comb, z_diff}
+use Rattle.ints.proofs.SignLaws.{gt_other}
 use Rattle.limits.specs.Limits.{weight_most}
 use Rattle.space.specs.declared.Vec3.{Vec3}
 use Rattle.space.specs.declared.Pair.{Pair}

@@ -4,7 +4,5 @@ pub mod Counts
 pub mod Laws
 pub mod Measure
 pub mod Order
-pub mod Quote
 pub mod Ring
 pub mod Sign
-pub mod Tests

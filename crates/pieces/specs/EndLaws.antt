@@ -6,7 +6,7 @@ use Prim.Native.Nat.{ℕ, zero, suc, ◌≤◌, ◌<◌}
 use native.Mathlib.Omega.{arith}
 use Rattle.std.specs.Int.Signed.{lt_z, ≤ℤ_refl}
 use Rattle.ints.specs.Order.{lt-or-ge, lt→≤ℤ, ≤ℤ-trans}
-use Rattle.ints.specs.Tests.{lt_of_true, le_of_false}
+use Rattle.ints.proofs.Tests.{lt_of_true, le_of_false}
 use Rattle.pieces.specs.Pieces.{lesser, greater, least_to, greatest_to}
 
 -- ---- of two

@@ -6,9 +6,10 @@ use Rattle.std.specs.Int.{w32}
 use Rattle.std.proofs.Math.Facts.{sfits_lit}
 use Rattle.std.proofs.lemmas.Bool.{eqb-false}
 use Rattle.std.specs.Int.Signed.{clash_ℤ}
-use Rattle.ints.specs.Measure.{nat_of}
-use Rattle.ints.specs.Order.{nn_pos, lt-or-ge, le-or-lt}
-use Rattle.ints.specs.Tests.{same_bits}
+use Rattle.ints.proofs.MeasureLaws.{nat_of}
+use Rattle.ints.specs.Order.{lt-or-ge, le-or-lt}
+use Rattle.ints.proofs.OrderLaws.{nn_pos}
+use Rattle.ints.proofs.Tests.{same_bits}
 use Rattle.limits.specs.Decides.{Decides}
 use Rattle.limits.specs.DecidesLaws.{holds, fails}
 use Rattle.limits.specs.Numbered.{Numbered}

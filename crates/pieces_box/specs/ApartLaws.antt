@@ -4,8 +4,8 @@ use Rattle.std.specs.Prelude.{◌≡◌, refl, Bool, true, false, cond, ◌&&◌
 use Rattle.std.proofs.Common.{sym, ap, ap₂, ◌∙◌, subst, inl, inr, arith, lt-ltb, eq-eqb, ne_eqb, ltb-true, ltb-false}
 use Rattle.std.specs.Int.Signed.{pos-nat_abs}
 use Rattle.ints.specs.Bounds.{Within}
-use Rattle.ints.specs.Order.{lt_comb, pos_of_lt, pos_lt, lt_pos}
-use Rattle.ints.specs.Quote.{sides, by_ring}
+use Rattle.ints.proofs.OrderLaws.{lt_comb, pos_of_lt, pos_lt, lt_pos}
+use Rattle.ints.proofs.Quote.{sides, by_ring}
 use Rattle.limits.specs.Limits
 use Rattle.limits.specs.Decides.{Decides}
 use Rattle.limits.specs.DecidesLaws.{holds, decides_is}

@@ -6,8 +6,9 @@ use Rattle.std.proofs.Math.Path.{refl, ap}
 use Rattle.std.proofs.Common.{sym, ap₂, ◌∙◌, arith}
 use Rattle.std.specs.Int.Signed.{lt_z, clash_ℤ, ≤ℤ_refl}
 use Rattle.ints.specs.Laws.{+ℤ-right-comm}
-use Rattle.ints.specs.Order.{le_dest, le_by, <ℤ-add, <ℤ-neg, ≤ℤ-neg}
-use Rattle.ints.specs.Tests.{lt_of_true, le_of_false}
+use Rattle.ints.specs.Order.{le_dest, le_by}
+use Rattle.ints.proofs.OrderLaws.{<ℤ-add, <ℤ-neg, ≤ℤ-neg}
+use Rattle.ints.proofs.Tests.{lt_of_true, le_of_false}
 use Rattle.pieces.specs.Pieces.{lesser, greater, least_to, greatest_to}
 
 -- two tests that go the same way are equal

@@ -2,7 +2,7 @@
 -- Every command keeps what stands; so it stands on every desk that was reached.
 use Rattle.std.specs.Prelude.{◌≡◌, refl, List, [], ◌∷◌, true, ℕ, zero, suc, ◌-◌, ◌*◌, ◌≤◌, ◌<◌, T, ℤ, pos, nat_abs, ◌+ℤ◌, ◌-ℤ◌, length}
 use Rattle.std.proofs.Common.{sym, ap, ◌∙◌, subst, inl, inr, arith}
-use Rattle.ints.specs.Quote.{sides, by_ring}
+use Rattle.ints.proofs.Quote.{sides, by_ring}
 use Rattle.limits.specs.Limits
 use Rattle.limits.specs.Lowest.{Refusal, Lowest}
 use Rattle.marks.specs.Marks.{Agree, axis_of, changed_marks}

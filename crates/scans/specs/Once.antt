@@ -9,7 +9,7 @@ use Rattle.std.specs.Float.Ieee.{up, down, size, fits, to_bits, of_bits}
 use Rattle.std.specs.Float.Ieee.Bits.{of_bits-to_bits}
 use Rattle.std.specs.Float.Ieee.Fits.{down_pos}
 use Rattle.std.specs.Float.Ieee.Nearest.{div_same}
-use Rattle.ints.specs.Order.{≡-cancel}
+use Rattle.ints.proofs.OrderLaws.{≡-cancel}
 use Rattle.limits.specs.Limits
 use Rattle.limits.specs.Lowest.{◌when◌}
 use Rattle.limits.proofs.LowestLaws.{lowest_once}

@@ -8,9 +8,10 @@ use mathlib.Core.List.{List, [], ◌∷◌, Memᴰ}
 use Rattle.std.proofs.Math.Logic.{⊎_elim}
 use Rattle.std.proofs.Math.IntN.{ℤ, +ℤ_idr}
 use Rattle.std.specs.Int.Signed.{<ℤ_irrefl, <ℤ-≤ℤ_trans, ≤ℤ_refl}
-use Rattle.ints.specs.Quote.{sides, by_ring}
-use Rattle.ints.specs.Order.{le_comb, lt_comb, nn_of_le, pos_of_lt, nn_add, nn_mul, pos_add, pos_mul, lt→≤ℤ, pos_suc, ≤ℤ-antisymm, zero-product, eq_comb, z_diff}
-use Rattle.ints.specs.Sign.{gt_other}
+use Rattle.ints.proofs.Quote.{sides, by_ring}
+use Rattle.ints.specs.Order.{lt→≤ℤ, ≤ℤ-antisymm}
+use Rattle.ints.proofs.OrderLaws.{le_comb, lt_comb, nn_of_le, pos_of_lt, nn_add, nn_mul, pos_add, pos_mul, pos_suc, zero-product, eq_comb, z_diff}
+use Rattle.ints.proofs.SignLaws.{gt_other}
 use Rattle.space.specs.Vectors.{Vec3, dot, minus, origin, env1}
 use Rattle.space.specs.Verdicts.{Piece, Pair, corner_at, widened_at, difference_of, Below, NotAbove, Separate, weighted, Fair, Balance, Meeting, Supported, Touching, Penetrating}
 use Rattle.space.specs.Verdicts.{VerdictIs, separate, touching, penetrating}

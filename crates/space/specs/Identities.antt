@@ -1,7 +1,7 @@
 -- The identities on which the walk stands, each one line by the ring solver: Cramer's rule, the normals, progress, Lagrange.
 -- A portal is (a, b, c), r the ray, p a point.
 use Rattle.std.specs.Prelude.{◌≡◌, refl, [], neg_ℤ, ◌+ℤ◌, ◌-ℤ◌, ◌*ℤ◌}
-use Rattle.ints.specs.Quote.{sides, by_ring}
+use Rattle.ints.proofs.Quote.{sides, by_ring}
 use Rattle.space.specs.Vectors.{Vec3, dot, det, normal, env1}
 
 -- Cramer's rule, along any d

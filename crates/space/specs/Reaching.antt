@@ -6,8 +6,9 @@ use Rattle.std.proofs.Math.IntN.{+ℤ_idl}
 use Rattle.std.specs.Int.Signed.{clash_ℤ, le_z}
 use Rattle.std.specs.Int.{w32}
 use Rattle.ints.specs.Bounds.{Within, within_upper, within_lower, within_of}
-use Rattle.ints.specs.Order.{≤ℤ-trans, nn_pos, nn_dest, pos_le, le_pos}
-use Rattle.ints.specs.Tests.{le_of_true, lt_of_false}
+use Rattle.ints.specs.Order.{≤ℤ-trans}
+use Rattle.ints.proofs.OrderLaws.{nn_pos, nn_dest, pos_le, le_pos}
+use Rattle.ints.proofs.Tests.{le_of_true, lt_of_false}
 use Rattle.limits.specs.Decides.{Decides}
 use Rattle.limits.specs.DecidesLaws.{holds, fails}
 use Rattle.limits.specs.Limits.{shape_numbers}

@@ -4,11 +4,14 @@ use Rattle.std.specs.Prelude.{◌≡◌, refl, List, [], ◌∷◌, Bool, true, 
 use Rattle.std.proofs.Common.{sym, ap, ◌∙◌, subst, inl, inr, ⊎_elim, arith, length-take}
 use Rattle.std.proofs.Math.IntN.{*ℤ-zero, +ℤ_idl}
 use Rattle.std.specs.Int.Signed.{clash_ℤ}
-use Rattle.ints.specs.Quote.{sides, by_ring}
-use Rattle.ints.specs.Order.{trichotomy, lt→≤ℤ, <ℤ-cancel, ≤ℤ-trans, nn_pos}
-use Rattle.ints.specs.Measure.{nat_of}
-use Rattle.ints.specs.Bounds.{Within, known, within, within_upper}
-use Rattle.ints.specs.Sign.{Under, gt_other}
+use Rattle.ints.proofs.Quote.{sides, by_ring}
+use Rattle.ints.specs.Order.{trichotomy, lt→≤ℤ, ≤ℤ-trans}
+use Rattle.ints.proofs.OrderLaws.{<ℤ-cancel, nn_pos}
+use Rattle.ints.proofs.MeasureLaws.{nat_of}
+use Rattle.ints.specs.Bounds.{Within, within, within_upper}
+use Rattle.ints.proofs.Known.{known}
+use Rattle.ints.specs.Sign.{Under}
+use Rattle.ints.proofs.SignLaws.{gt_other}
 use Rattle.limits.specs.Decides.{Decides}
 use Rattle.limits.specs.Limits.{weight_most, direction_reach, placed_reach, placed_range, list_length, gap_most, gap_refused}
 use Rattle.limits.specs.Lowest.{Lowest}

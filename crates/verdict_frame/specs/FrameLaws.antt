@@ -5,10 +5,12 @@ use Rattle.std.proofs.Common.{sym, ap, ap₂, ◌∙◌, subst, inl, inr, ⊎_el
 use Rattle.std.specs.Int.{w64}
 use Rattle.std.specs.Int.Signed.{clash_ℤ, lt_z}
 use Rattle.std.proofs.lemmas.Bool.{eqb-false}
-use Rattle.ints.specs.Quote.{sides, by_ring}
-use Rattle.ints.specs.Order.{le_comb, lt_comb, nn_of_le, pos_of_lt, nn_mul, pos_mul, pos_add, pos_suc, pos_lt, <ℤ-neg, le-or-lt, lt→≤ℤ, eq_comb, z_diff, z_add, lt-or-ge, nn_pos}
-use Rattle.ints.specs.Sign.{lt_other, gt_other}
-use Rattle.ints.specs.Bounds.{Within, known, within, nat_abs_add, nat_abs_neg}
+use Rattle.ints.proofs.Quote.{sides, by_ring}
+use Rattle.ints.specs.Order.{le-or-lt, lt→≤ℤ, lt-or-ge}
+use Rattle.ints.proofs.OrderLaws.{le_comb, lt_comb, nn_of_le, pos_of_lt, nn_mul, pos_mul, pos_add, pos_suc, pos_lt, <ℤ-neg, eq_comb, z_diff, z_add, nn_pos}
+use Rattle.ints.proofs.SignLaws.{lt_other, gt_other}
+use Rattle.ints.specs.Bounds.{Within, within, nat_abs_add, nat_abs_neg}
+use Rattle.ints.proofs.Known.{known}
 use Rattle.limits.specs.Limits.{gap_most}
 use Rattle.limits.specs.Decides.{Decides}
 use Rattle.limits.specs.DecidesLaws.{holds, fails}

@@ -3,12 +3,14 @@
 use Rattle.std.specs.Prelude.{◌≡◌, refl, [], ◌∷◌, ◌⊎◌, ℤ, pos, ◌+ℤ◌, ◌-ℤ◌, ◌*ℤ◌, ◌≤ℤ◌, ◌<ℤ◌}
 use Rattle.std.proofs.Common.{sym, ◌∙◌, subst, inl, inr, ⊎_elim}
 use Rattle.std.specs.Int.Signed.{clash_ℤ, <ℤ_irrefl}
-use Rattle.ints.specs.Quote.{sides, by_ring}
-use Rattle.ints.specs.Order.{le-or-lt, le_comb, lt_comb, nn_of_le, pos_of_lt, nn_add, nn_mul, pos_add, pos_mul, lt→≤ℤ, ≤ℤ-<ℤ-trans, ≤ℤ-antisymm}
+use Rattle.ints.proofs.Quote.{sides, by_ring}
+use Rattle.ints.specs.Order.{le-or-lt, lt→≤ℤ, ≤ℤ-<ℤ-trans, ≤ℤ-antisymm}
+use Rattle.ints.proofs.OrderLaws.{le_comb, lt_comb, nn_of_le, pos_of_lt, nn_add, nn_mul, pos_add, pos_mul}
 use Rattle.space.specs.declared.Vec3.{Vec3}
 use Rattle.space.specs.Vectors.{dot, plus, det, env1, origin, vec_eq}
 use Rattle.verdict_portal.specs.Portal.{ZeroSum, zero_sum_dot, frame_zero}
-use Rattle.ints.specs.Sign.{Under, lex, lex_other, same_sym, l2, gt_other}
+use Rattle.ints.specs.Sign.{Under, lex}
+use Rattle.ints.proofs.SignLaws.{lex_other, same_sym, l2, gt_other}
 use Rattle.verdict_portal.specs.Sizes.{big_k, pos_k, hat, hat_dot}
 use Rattle.verdict_portal.specs.Round.{Met}
 

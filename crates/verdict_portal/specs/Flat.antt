@@ -4,8 +4,9 @@ use Rattle.std.specs.Prelude.{◌≡◌, refl, [], ◌∷◌, ◌⊎◌, ℕ, ze
 use Rattle.std.proofs.Common.{sym, ◌∙◌, subst, ⊎_elim}
 use Rattle.std.proofs.Math.IntN.{*ℤ-zero}
 use Rattle.ints.specs.Laws.{*ℤ-distribl}
-use Rattle.ints.specs.Quote.{sides, by_ring}
-use Rattle.ints.specs.Order.{zero-product, eq_comb, z_diff, z_add, trichotomy, pos_mul, <ℤ-neg}
+use Rattle.ints.proofs.Quote.{sides, by_ring}
+use Rattle.ints.specs.Order.{trichotomy}
+use Rattle.ints.proofs.OrderLaws.{zero-product, eq_comb, z_diff, z_add, pos_mul, <ℤ-neg}
 use Rattle.space.specs.declared.Vec3.{Vec3}
 use Rattle.space.specs.Vectors.{dot, cross, minus, plus, scale, det, env1, opposite, vec_eq}
 use Rattle.verdict_portal.specs.Portal.{ZeroSum, zero_sum_dot}

@@ -3,8 +3,9 @@ use Rattle.std.specs.Prelude.{◌≡◌, refl, [], ◌∷◌, ◌⊎◌, ℤ, po
 use Rattle.std.proofs.Common.{sym, ap, ap₂, ◌∙◌, subst, ⊎_elim}
 use Rattle.std.proofs.Math.IntN.{zero-*ℤ}
 use Rattle.std.specs.Int.Signed.{clash_ℤ}
-use Rattle.ints.specs.Quote.{sides, by_ring}
-use Rattle.ints.specs.Order.{lt_comb, nn_mul, pos_add, pos_mul, pos_factor, lt→≤ℤ, <ℤ-neg, ≤ℤ-neg, zero-product}
+use Rattle.ints.proofs.Quote.{sides, by_ring}
+use Rattle.ints.specs.Order.{lt→≤ℤ}
+use Rattle.ints.proofs.OrderLaws.{lt_comb, nn_mul, pos_add, pos_mul, pos_factor, <ℤ-neg, ≤ℤ-neg, zero-product}
 use Rattle.space.specs.declared.Vec3.{Vec3}
 use Rattle.space.specs.Vectors.{dot, cross, det, normal, env1}
 use Rattle.space.specs.Identities.{normal_along, progress}

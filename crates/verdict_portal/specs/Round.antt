@@ -8,8 +8,10 @@ use Rattle.space.specs.declared.Vec3.{Vec3}
 use Rattle.space.specs.Vectors.{dot, cross, minus, det, normal}
 use Rattle.space.specs.Ranges.{Upto, point_reach, shift_reach}
 use Rattle.verdict_portal.specs.Portal.{Inv, Onward, ZeroSum, depth, reach, inv_rot, reach_pos, reach_rot, det_rot, normal_rot, a5, b3, b4, b5_edge, frame_zero, cramer}
-use Rattle.ints.specs.Measure.{measure, falls}
-use Rattle.ints.specs.Sign.{Same, same_nn, same_trans, same_eq, lex, lex_both, lt_other}
+use Rattle.ints.specs.Measure.{measure}
+use Rattle.ints.proofs.MeasureLaws.{falls}
+use Rattle.ints.specs.Sign.{Same, lex}
+use Rattle.ints.proofs.SignLaws.{same_nn, same_trans, same_eq, lex_both, lt_other}
 use Rattle.verdict_portal.specs.Shift.{side, front, tie}
 use Rattle.verdict_portal.specs.Sizes.{big_k, big_s, hat, beam, side_sign, front_sign, tie_sign, tie_one, reach_upper}
 

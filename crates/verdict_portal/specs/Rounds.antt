@@ -6,10 +6,12 @@ use Rattle.std.proofs.Math.Nat.{le-max_left, le-max_right}
 use Rattle.std.specs.Int.{w64}
 use Rattle.std.proofs.Math.Facts.{sfits_lit}
 use Rattle.std.specs.Int.Signed.{lt_z}
-use Rattle.ints.specs.Bounds.{In, Known, Within, known, within, worth, fits, k_back, k-is, k_within, ◌&◌, and_l, and_r}
+use Rattle.ints.specs.Bounds.{In, Known, Within, within, worth, fits, k_back, k-is, k_within, ◌&◌, and_l, and_r}
+use Rattle.ints.proofs.Known.{known}
 use Rattle.ints.specs.Order.{le-or-lt}
-use Rattle.ints.specs.Sign.{lex, lex_assoc, lex_zero, lex_other}
-use Rattle.ints.specs.Tests.{same_bits, lt_of_true, le_of_false}
+use Rattle.ints.specs.Sign.{lex}
+use Rattle.ints.proofs.SignLaws.{lex_assoc, lex_zero, lex_other}
+use Rattle.ints.proofs.Tests.{same_bits, lt_of_true, le_of_false}
 use Rattle.space.specs.declared.Vec3.{Vec3}
 use Rattle.space.specs.Vectors.{dot, cross, minus, plus}
 use Rattle.space.specs.Ranges.{Upto, point_reach, edge_reach, cross_reach}

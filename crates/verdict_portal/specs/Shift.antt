@@ -1,12 +1,13 @@
 -- Shifted points k p + q and the ray l² c1 + l c2 + c3, for any k and l: the identities K1 to K5, and what they say of signs.
 use Rattle.std.specs.Prelude.{◌≡◌, refl, [], ◌∷◌, ℤ, pos, neg_ℤ, ◌+ℤ◌, ◌*ℤ◌, ◌<ℤ◌}
 use Rattle.std.proofs.Common.{sym, ap, ap₂, ◌∙◌, subst}
-use Rattle.ints.specs.Quote.{sides, by_ring}
-use Rattle.ints.specs.Order.{pos_mul, pos_factor, <ℤ-neg}
+use Rattle.ints.proofs.Quote.{sides, by_ring}
+use Rattle.ints.proofs.OrderLaws.{pos_mul, pos_factor, <ℤ-neg}
 use Rattle.space.specs.declared.Vec3.{Vec3}
 use Rattle.space.specs.Vectors.{dot, cross, minus, plus, scale, det, normal, env1, origin}
 use Rattle.verdict_portal.specs.Portal.{Inv, depth}
-use Rattle.ints.specs.Sign.{Same, Under, lex, l1, l2, same_trans, same_eq, same_mul, same_lex, lex_assoc, lex_other, gt_other}
+use Rattle.ints.specs.Sign.{Same, Under, lex}
+use Rattle.ints.proofs.SignLaws.{l1, l2, same_trans, same_eq, same_mul, same_lex, lex_assoc, lex_other, gt_other}
 
 abbrev pub shift : ℤ → Vec3 → Vec3 → Vec3
 shift k q p = plus (scale k p) q

@@ -2,7 +2,8 @@
 -- The definitions stand in Ends.
 use Rattle.std.specs.Prelude.{◌≡◌, refl, Bool, true, false, ◌⊎◌, ℕ, ◌≤◌, ◌<◌, T, pos, ◌≤ℤ◌, ◌<ℤ◌}
 use Rattle.std.proofs.Common.{sym, ap, ap₂, ◌∙◌, subst, inl, inr, arith}
-use Rattle.ints.specs.Bounds.{known, within}
+use Rattle.ints.specs.Bounds.{within}
+use Rattle.ints.proofs.Known.{known}
 use Rattle.ints.specs.Order.{lt-or-ge}
 use Rattle.ints.specs.Sign.{Under, lex}
 use Rattle.space.specs.declared.Vec3.{Vec3}

@@ -8,9 +8,11 @@ use Rattle.std.proofs.Math.Decide.{ℕ_discrete}
 use Rattle.std.specs.Int.{w64}
 use Rattle.std.proofs.Math.IntN.{+ℤ_idl, +ℤ_idr, +ℤ_assoc, zero-*ℤ}
 use Rattle.std.specs.Int.Signed.{clash_ℤ}
-use Rattle.ints.specs.Order.{trichotomy, lt_succ}
-use Rattle.ints.specs.Bounds.{Within, known, within, worth, k_back, k-is, k_within}
-use Rattle.ints.specs.Sign.{lt_other, gt_other}
+use Rattle.ints.specs.Order.{trichotomy}
+use Rattle.ints.proofs.OrderLaws.{lt_succ}
+use Rattle.ints.specs.Bounds.{Within, within, worth, k_back, k-is, k_within}
+use Rattle.ints.proofs.Known.{known}
+use Rattle.ints.proofs.SignLaws.{lt_other, gt_other}
 use Rattle.limits.specs.Limits.{weight_most}
 use Rattle.space.specs.declared.Vec3.{Vec3}
 use Rattle.space.specs.declared.Pair.{Pair}

@@ -3,9 +3,11 @@
 use Rattle.std.specs.Prelude.{◌≡◌, refl, [], ◌∷◌, ℕ, zero, suc, ◌+◌, ◌-◌, ◌*◌, ◌/◌, ◌%◌, ◌≤◌, ◌<◌, ℤ, pos, negsuc, neg_ℤ, ◌+ℤ◌, ◌-ℤ◌, ◌*ℤ◌, ◌≤ℤ◌, ◌<ℤ◌}
 use Rattle.std.proofs.Common.{sym, ap, ◌∙◌, subst, inl, inr, arith, below_more}
 use Rattle.std.specs.Int.Signed.{clash_ℤ}
-use Rattle.ints.specs.Quote.{sides, by_ring}
-use Rattle.ints.specs.Order.{le_comb, lt_comb, nn_of_le, pos_of_lt, nn_add, nn_mul, nn_pos, lt→≤ℤ, <ℤ-neg, le_of_eq, <ℤ-cancel, ≤ℤ-cancel, <ℤ-add, ≤ℤ-trans}
-use Rattle.ints.specs.Bounds.{Within, known, within}
+use Rattle.ints.proofs.Quote.{sides, by_ring}
+use Rattle.ints.specs.Order.{lt→≤ℤ, le_of_eq, ≤ℤ-trans}
+use Rattle.ints.proofs.OrderLaws.{le_comb, lt_comb, nn_of_le, pos_of_lt, nn_add, nn_mul, nn_pos, <ℤ-neg, <ℤ-cancel, ≤ℤ-cancel, <ℤ-add}
+use Rattle.ints.specs.Bounds.{Within, within}
+use Rattle.ints.proofs.Known.{known}
 use Rattle.limits.specs.Limits.{placed_reach, gap_most}
 use Rattle.space.specs.declared.Vec3.{Vec3}
 use Rattle.space.specs.Vectors.{dot, minus, plus, env1, origin, opposite, vec_eq}

@@ -3,7 +3,8 @@
 use native.Mathlib.Omega.{arith}
 use mir.Syntax.{w32}
 use mir.ValLaws.{to_z-of_z}
-use Rattle.ints.specs.Bounds.{fits, worth, k_sub, k_back, k_abs, k_lit_pos}
+use Rattle.ints.specs.Bounds.{fits, worth, k_back, k_abs, k_lit_pos}
+use Rattle.ints.proofs.Known.{k_sub}
 use Rattle.pieces.specs.Pieces.{held_in}
 use Rattle.desk_move.specs.Moving.{moved_eq}
 use borrow.Author.Rules.{rules}

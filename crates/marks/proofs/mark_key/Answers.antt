@@ -8,7 +8,8 @@ use lib.Signed.{non_neg}
 use mir.Syntax.{w32}
 use mir.Val.{SFits, to_z, of_z}
 use Rattle.limits.specs.Limits
-use Rattle.ints.specs.Bounds.{Within, known, fits, worth}
+use Rattle.ints.specs.Bounds.{Within, fits, worth}
+use Rattle.ints.proofs.Known.{known}
 use Rattle.marks.specs.Keys.{raised}
 use Rattle.marks.specs.Order.{raised_most, raised_sign}
 use Rattle.marks.proofs.mark_key.Goals as goal

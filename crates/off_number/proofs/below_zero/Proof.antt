@@ -5,7 +5,8 @@ use borrow.Author.Rules.{rules}
 use lib.IntN.{ℤ, pos, neg_ℤ, ◌-ℤ◌, +ℤ_idl}
 use mir.Syntax.{w32}
 use mir.Val.{to_z}
-use Rattle.ints.specs.Bounds.{Known, k_lit_pos, k_bits, k_sub, k_back, fits, worth}
+use Rattle.ints.specs.Bounds.{Known, k_lit_pos, k_bits, k_back, fits, worth}
+use Rattle.ints.proofs.Known.{k_sub}
 use Rattle.limits.specs.Limits
 use Rattle.off_number.specs.declared.NumberRead.{NumberRead}
 use Rattle.off_number.proofs.below_zero.Statement.{statement}

@@ -6,7 +6,7 @@ use mathlib.Core.Bool.{Bool, true, false}
 use mathlib.Core.Path.{◌≡◌, refl, sym, ap, ◌∙◌, subst}
 use mir.Syntax.{w32}
 use mir.Val.{SFits, of_z}
-use Rattle.ints.specs.Tests.{same_bits}
+use Rattle.ints.proofs.Tests.{same_bits}
 use Rattle.scans_stl_corners.specs.KeptLaws.{equal_is, equal_self}
 use Rattle.scans_stl_corners.specs.Kept.{equal_numbers}
 use Rattle.scans_stl_corners.proofs.alike.Statement.{statement}

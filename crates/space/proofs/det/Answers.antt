@@ -1,7 +1,8 @@
 -- `space::det`: the two kernels' ranges hold, and the dot of the cross product is the determinant by definition.
 use mathlib.Core.Path.{ap, ◌∙◌}
 use mir.Syntax.{w64}
-use Rattle.ints.specs.Bounds.{known, worth, k_back, k-is}
+use Rattle.ints.specs.Bounds.{worth, k_back, k-is}
+use Rattle.ints.proofs.Known.{known}
 use Rattle.space.specs.Vectors.{dot}
 use Rattle.space.specs.Ranges.{upto_le}
 use Rattle.space.proofs.det.Goals as goal

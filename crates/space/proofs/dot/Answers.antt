@@ -1,5 +1,6 @@
 -- `space::dot`: each product and each sum fits, by the ranges of the two vectors.
-use Rattle.ints.specs.Bounds.{known, fits, worth}
+use Rattle.ints.specs.Bounds.{fits, worth}
+use Rattle.ints.proofs.Known.{known}
 use Rattle.space.proofs.dot.Goals as goal
 
 pub overflow_mul-result : goal.overflow_mul-result

@@ -3,9 +3,10 @@ use mathlib.Core.Path.{sym, ◌∙◌}
 use lib.IntN.{pos}
 use mir.Syntax.{w64}
 use mir.Facts.{sfits_lit}
-use Rattle.ints.specs.Tests.{same_bits, other_bits}
-use Rattle.ints.specs.Sign.{lex_zero, lex_other}
-use Rattle.ints.specs.Bounds.{known, fits, worth}
+use Rattle.ints.proofs.Tests.{same_bits, other_bits}
+use Rattle.ints.proofs.SignLaws.{lex_zero, lex_other}
+use Rattle.ints.specs.Bounds.{fits, worth}
+use Rattle.ints.proofs.Known.{known}
 use Rattle.space.proofs.first_of.Goals as goal
 
 pub returns-then-u-eq0 : goal.returns-then-u-eq0

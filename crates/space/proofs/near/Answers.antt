@@ -2,8 +2,9 @@
 use mathlib.Core.Path.{refl, ap₂}
 use lib.Signed.{le_z}
 use mir.Facts.{to_z-of_z}
-use Rattle.ints.specs.Bounds.{known, fits}
-use Rattle.ints.specs.Tests.{lt-true, lt-false, tested}
+use Rattle.ints.specs.Bounds.{fits}
+use Rattle.ints.proofs.Known.{known}
+use Rattle.ints.proofs.Tests.{lt-true, lt-false, tested}
 use Rattle.limits.specs.DecidesLaws.{fails, decides_is}
 use Rattle.space.specs.Reaching.{near_none, near_below, near_decided, reach_most}
 use Rattle.space.proofs.near.Goals as goal

@@ -1,6 +1,7 @@
 -- `space::opposite`: every coordinate is known by the ranges of the two vectors, and so is its bound.
 use Rattle.space.specs.Ranges.{made}
-use Rattle.ints.specs.Bounds.{known, fits}
+use Rattle.ints.specs.Bounds.{fits}
+use Rattle.ints.proofs.Known.{known}
 use Rattle.space.proofs.opposite.Goals as goal
 
 pub overflow_sub-result : goal.overflow_sub-result

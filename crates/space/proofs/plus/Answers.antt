@@ -1,6 +1,7 @@
 -- `space::plus`: every coordinate is known by the ranges of the two vectors, and so is its bound.
 use Rattle.space.specs.Ranges.{made}
-use Rattle.ints.specs.Bounds.{known, fits}
+use Rattle.ints.specs.Bounds.{fits}
+use Rattle.ints.proofs.Known.{known}
 use Rattle.space.proofs.plus.Goals as goal
 
 pub overflow_add-result : goal.overflow_add-result

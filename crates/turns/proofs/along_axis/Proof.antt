@@ -8,7 +8,8 @@ use mir.Syntax.{w8, w32}
 use mir.Val.{SFits, to_z, of_z}
 use mir.ValLaws.{to_z-of_z}
 use Rattle.limits.specs.Limits
-use Rattle.ints.specs.Bounds.{Within, known, fits, worth_is}
+use Rattle.ints.specs.Bounds.{Within, fits, worth_is}
+use Rattle.ints.proofs.Known.{known}
 use Rattle.turns.specs.Turns.{named_axis}
 use Rattle.turns.specs.Range.{axis_within}
 use Rattle.turns.proofs.Signs.{read_back}

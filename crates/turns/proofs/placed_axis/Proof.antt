@@ -5,7 +5,8 @@ use lib.IntN.{ℤ, ◌+ℤ◌}
 use mir.Syntax.{w32}
 use mir.Val.{SFits, to_z, of_z}
 use Rattle.limits.specs.Limits
-use Rattle.ints.specs.Bounds.{Within, known, fits, worth}
+use Rattle.ints.specs.Bounds.{Within, fits, worth}
+use Rattle.ints.proofs.Known.{known}
 use Rattle.turns.specs.Turns.{turned_at, placed_at}
 use Rattle.turns.specs.Range.{placed_within}
 use Rattle.turns.proofs.Signs.{read_back}

@@ -1,7 +1,7 @@
 -- `verdict::gap_fits`: below zero it is no gap; else it is one exactly where it is near the widest.
 use mathlib.Core.Path.{refl, subst}
 use mir.Facts.{to_z-of_z}
-use Rattle.ints.specs.Tests.{lt-true, lt-false, tested}
+use Rattle.ints.proofs.Tests.{lt-true, lt-false, tested}
 use Rattle.ints.specs.Bounds.{Within}
 use Rattle.limits.specs.Decides.{Decides}
 use Rattle.limits.specs.DecidesLaws.{fails}

@@ -3,7 +3,8 @@ use mathlib.Core.Path.{ap, ◌∙◌}
 use lib.IntN.{pos}
 use lib.Signed.{lt_z}
 use mir.Syntax.{w64}
-use Rattle.ints.specs.Bounds.{known, worth, k-is, k_back}
+use Rattle.ints.specs.Bounds.{worth, k-is, k_back}
+use Rattle.ints.proofs.Known.{known}
 use Rattle.space.specs.Ranges.{upto_le}
 use Rattle.verdict_portal.specs.Rounds.{side_level, side_clear, dot_within, zero_made, other_made, sign_made}
 use borrow.Author.Rules.{rules}

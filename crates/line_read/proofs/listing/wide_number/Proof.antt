@@ -1,6 +1,7 @@
 -- `line_read::listing::wide_number`: a number of 32 bits fits 64.
 use borrow.Author.Rules.{rules}
-use Rattle.ints.specs.Bounds.{known, fits}
+use Rattle.ints.specs.Bounds.{fits}
+use Rattle.ints.proofs.Known.{known}
 use Rattle.line_read.proofs.listing.wide_number.Statement.{statement}
 use Rattle.line_read.proofs.listing.wide_number.Tie as tie
 

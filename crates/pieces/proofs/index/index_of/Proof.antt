@@ -8,7 +8,7 @@ use lib.Signed.{lt_z, non_neg}
 use mir.Syntax.{w32, w64}
 use mir.Val.{Fits, SFits}
 use mir.Facts.{to_z-of_z}
-use Rattle.ints.specs.Tests.{lt-true, lt-false, tested}
+use Rattle.ints.proofs.Tests.{lt-true, lt-false, tested}
 use Rattle.pieces.specs.Index.{Indexed}
 use Rattle.pieces.specs.IndexLaws.{below-zero, from_zero, too_great}
 use Rattle.pieces.proofs.index.index_of.Statement.{statement}

@@ -1,8 +1,9 @@
 -- `pieces_box::boxes::lesser`: by the test that the definition makes.
 use mathlib.Core.Path.{sym, ap, ◌∙◌}
 use mathlib.Core.Bool.{cond}
-use Rattle.ints.specs.Bounds.{known, worth}
-use Rattle.ints.specs.Tests.{test_is, tested}
+use Rattle.ints.specs.Bounds.{worth}
+use Rattle.ints.proofs.Known.{known}
+use Rattle.ints.proofs.Tests.{test_is, tested}
 use Rattle.pieces_box.proofs.boxes.lesser.Statement.{statement}
 use Rattle.pieces_box.proofs.boxes.lesser.Tie as tie
 

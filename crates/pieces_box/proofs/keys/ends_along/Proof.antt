@@ -13,7 +13,8 @@ use mir.Val.{SFits, to_z, of_z}
 use mir.ValLaws.{to_z-of_z}
 use borrow.Author.Rules.{rules}
 use Rattle.limits.specs.Limits
-use Rattle.ints.specs.Bounds.{Within, known, fits, worth, worth_is, k_back, k_within}
+use Rattle.ints.specs.Bounds.{Within, fits, worth, worth_is, k_back, k_within}
+use Rattle.ints.proofs.Known.{known}
 use Rattle.turns.specs.Turns.{axis_number}
 use Rattle.pieces_box.specs.declared.boxes.Ends.{Ends}
 use Rattle.pieces_box.specs.ShapeBox.{ends_on, opposed, box_in, NearEnds}

@@ -10,7 +10,8 @@ use mir.Val.{SFits, to_z, of_z}
 use mir.ValLaws.{to_z-of_z}
 use borrow.Author.Rules.{rules}
 use Rattle.limits.specs.Limits
-use Rattle.ints.specs.Bounds.{Within, known, fits, worth}
+use Rattle.ints.specs.Bounds.{Within, fits, worth}
+use Rattle.ints.proofs.Known.{known}
 use Rattle.turns.specs.Turns.{signed_axis}
 use Rattle.pieces.specs.IndexLaws.{cell-index}
 use Rattle.pieces.specs.Pieces.{held_in, turn_in}

@@ -6,7 +6,7 @@ use lib.IntN.{ℤ, pos}
 use mir.Syntax.{w32}
 use mir.Facts.{sfits_lit}
 use Rattle.ints.specs.Bounds.{element}
-use Rattle.ints.specs.Tests.{same_bits, other_bits}
+use Rattle.ints.proofs.Tests.{same_bits, other_bits}
 use Rattle.runs.specs.Log.{Entry}
 use Rattle.runs.specs.Encoded.{number_in, commands_of, commands_in}
 use Rattle.runs.specs.EncodedLaws.{passed_over}

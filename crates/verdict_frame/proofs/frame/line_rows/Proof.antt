@@ -1,7 +1,8 @@
 -- `verdict_frame::line_rows`: nine numbers, each known by the range of the vector.
 use Rattle.space.specs.Ranges.{made}
 use Rattle.verdict_frame.specs.FrameLaws.{rows_made}
-use Rattle.ints.specs.Bounds.{known, fits}
+use Rattle.ints.specs.Bounds.{fits}
+use Rattle.ints.proofs.Known.{known}
 use Rattle.verdict_frame.proofs.frame.line_rows.Statement.{statement}
 use Rattle.verdict_frame.proofs.frame.line_rows.Tie as tie
 

@@ -1,6 +1,7 @@
 -- `verdict_frame::unit`: the unit along axis j.
 use mathlib.Core.Path.{sym, ap}
-use Rattle.ints.specs.Bounds.{known, within}
+use Rattle.ints.specs.Bounds.{within}
+use Rattle.ints.proofs.Known.{known}
 use Rattle.verdict_portal.specs.Flat.{unit}
 use Rattle.verdict_frame.specs.FrameLaws.{unit_rest}
 use Rattle.verdict_frame.proofs.frame.unit.Statement.{statement}

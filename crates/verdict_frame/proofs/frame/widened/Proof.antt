@@ -3,7 +3,8 @@ use mathlib.Core.Path.{refl, ap, ◌∙◌}
 use lib.IntN.{pos}
 use mir.Syntax.{w64}
 use mir.Val.{to_z, of_z}
-use Rattle.ints.specs.Bounds.{Known, fits, within, worth, k_back, k-is, k_abs, k_within, k_sub, k_lit_pos}
+use Rattle.ints.specs.Bounds.{Known, fits, within, worth, k_back, k-is, k_abs, k_within, k_lit_pos}
+use Rattle.ints.proofs.Known.{k_sub}
 use Rattle.limits.specs.Limits.{gap_most}
 use Rattle.space.specs.Ranges.{made, upto_le}
 use Rattle.verdict_walk.specs.PointLaws.{signed_is}

@@ -4,7 +4,8 @@ use mathlib.Core.Path.{refl, ap}
 use lib.IntN.{pos, ◌-ℤ◌}
 use native.Mathlib.Omega.{arith}
 use mir.Syntax.{w64}
-use Rattle.ints.specs.Bounds.{fits, k-is, k_within, k_sub, k_lit_pos, k_back}
+use Rattle.ints.specs.Bounds.{fits, k-is, k_within, k_lit_pos, k_back}
+use Rattle.ints.proofs.Known.{k_sub}
 use Rattle.verdict_walk.specs.GatherLaws.{room_none, room_more, room_le, pushed_as, weight_within, minus_within, weight_is, weight_fits}
 use Rattle.verdict_walk.proofs.gather.gathered_of.Statement.{statement}
 use Rattle.verdict_walk.proofs.gather.gathered_of.Tie as tie

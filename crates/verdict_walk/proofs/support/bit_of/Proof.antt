@@ -1,7 +1,7 @@
 -- `verdict_walk::bit_of`: by the test that the definition makes.
 use mathlib.Core.Path.{sym}
 use native.Mathlib.Omega.{arith}
-use Rattle.ints.specs.Tests.{lt-true, lt-false, tested}
+use Rattle.ints.proofs.Tests.{lt-true, lt-false, tested}
 use Rattle.verdict_walk.specs.PointLaws.{bit_below, bit_above}
 use Rattle.verdict_walk.proofs.support.bit_of.Statement.{statement}
 use Rattle.verdict_walk.proofs.support.bit_of.Tie as tie

@@ -1,7 +1,8 @@
 -- `verdict_walk::corner`: three numbers of the list, each near.
 use Prim.Native.Nat.{◌*◌, ◌+◌}
 use native.Mathlib.Omega.{arith}
-use Rattle.ints.specs.Bounds.{known, k-is}
+use Rattle.ints.specs.Bounds.{k-is}
+use Rattle.ints.proofs.Known.{known}
 use Rattle.space.specs.Ranges.{made}
 use Rattle.space.specs.Verdicts.{corner_at}
 use borrow.Author.Rules.{rules}

@@ -9,7 +9,7 @@ use mir.Syntax.{w64}
 use mir.Val.{of_z, to_z}
 use Rattle.ints.specs.Bounds.{k_back, k_bits, k-is, k_within}
 use Rattle.ints.specs.Order.{le_of_eq}
-use Rattle.ints.specs.Tests.{t_less, lt-true, lt-false}
+use Rattle.ints.proofs.Tests.{t_less, lt-true, lt-false}
 use Rattle.space.specs.Vectors.{dot}
 use Rattle.space.specs.Ranges.{upto_le}
 use Rattle.space.specs.Verdicts.{corner_at, corner_count}

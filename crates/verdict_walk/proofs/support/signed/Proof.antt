@@ -1,7 +1,8 @@
 -- `verdict_walk::signed`: the sign is −1 where n is negative, else 1.
-use Rattle.ints.specs.Tests.{lt-true, lt-false, tested}
+use Rattle.ints.proofs.Tests.{lt-true, lt-false, tested}
 use Rattle.verdict_walk.specs.PointLaws.{signed_below, signed_above}
-use Rattle.ints.specs.Bounds.{known, fits, worth}
+use Rattle.ints.specs.Bounds.{fits, worth}
+use Rattle.ints.proofs.Known.{known}
 use Rattle.verdict_walk.proofs.support.signed.Statement.{statement}
 use Rattle.verdict_walk.proofs.support.signed.Tie as tie
 

@@ -1,5 +1,6 @@
 -- `verdict_walk::wide`: a number of 32 bits fits 64.
-use Rattle.ints.specs.Bounds.{known, fits, worth}
+use Rattle.ints.specs.Bounds.{fits, worth}
+use Rattle.ints.proofs.Known.{known}
 use Rattle.verdict_walk.proofs.support.wide.Statement.{statement}
 use Rattle.verdict_walk.proofs.support.wide.Tie as tie
 
