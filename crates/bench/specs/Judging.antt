@@ -15,8 +15,8 @@ use Rattle.space.specs.declared.Pair.{Pair}
 use Rattle.space.specs.Vectors.{dot, minus, det, env1}
 use Rattle.space.specs.Verdicts.{Piece, corner_count, corner_at, cube_corners, Fair, VerdictIs, separate, touching, penetrating}
 use Rattle.space.specs.NoGap.{PlainBelow, plain_weighted, PlainBalance, PlainSupported}
-use Rattle.space.specs.NoGapLaws.{unwidened, supported_plain, balance_plain, verdict_plain}
-use Rattle.space.specs.Exclusion.{supported_nonzero, balanced_level}
+use Rattle.space.proofs.NoGapLaws.{unwidened, supported_plain, balance_plain, verdict_plain}
+use Rattle.space.proofs.ExclusionLaws.{supported_nonzero, balanced_level}
 use Rattle.verdict_portal.specs.Exits.{frame_origin}
 use Rattle.turns.specs.Table.{and_left, and_right, below, number}
 

@@ -5,7 +5,7 @@ use Rattle.space.specs.declared.Vec3.{Vec3}
 use Rattle.space.specs.declared.Pair.{Pair}
 use Rattle.space.specs.Verdicts.{Below, VerdictIs, corner_at, separate, touching, penetrating}
 use Rattle.space.specs.NoGap.{plain_weighted}
-use Rattle.space.specs.NoGapLaws.{below_plain}
+use Rattle.space.proofs.NoGapLaws.{below_plain}
 use Rattle.bench.specs.Judging.{below_by, separate_by, touching_by, penetrating_by, whole_by}
 use Rattle.bench.specs.Table.{B, T, P, along_x, along_y, placed}
 

@@ -10,7 +10,7 @@ use Rattle.rows_tally.specs.Counting.{zero_at}
 use Rattle.marks.specs.Marks.{Axes, axis_of, InPlace, InPlaceMarks, RangedMarks}
 use Rattle.marks.specs.Keys.{key_at}
 use Rattle.marks.specs.Sorted.{in_order}
-use Rattle.marks.specs.Cells.{there_in_place}
+use Rattle.marks.proofs.Cells.{there_in_place}
 use Rattle.pieces.specs.declared.placement.Placement.{Placement}
 use Rattle.pieces.specs.Pieces.{Sized, Taken, axes_of}
 use Rattle.pieces.specs.Store.{ranged}

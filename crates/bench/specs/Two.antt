@@ -6,7 +6,7 @@ use Rattle.limits.specs.Limits
 use Rattle.limits.specs.Lowest.{Lowest}
 use Rattle.space.specs.Lists.{LengthFits, InReach, Placed}
 use Rattle.space.specs.Verdicts.{VerdictIs}
-use Rattle.space.specs.Exclusion.{verdict_once}
+use Rattle.space.proofs.ExclusionLaws.{verdict_once}
 use Rattle.verdict.specs.Answers.{Answers, refusals}
 use Rattle.verdict.specs.declared.Answer.{Answer}
 use Rattle.turns.specs.Table.{and_left, and_right, below, number}

@@ -15,7 +15,7 @@ use Rattle.rows.specs.Handling.{rows_started, handled_once}
 use Rattle.rows_list.specs.declared.Listed.{Listed}
 use Rattle.rows_list.specs.declared.Listed.TheVariants.{Rows, Refused}
 use Rattle.marks.specs.Marks.{InPlaceMarks, changed_marks}
-use Rattle.marks.specs.Buffer.{none_in_place_marks, one_buffer}
+use Rattle.marks.proofs.Buffer.{none_in_place_marks, one_buffer}
 use Rattle.pieces.specs.declared.placement.Placement.{Placement}
 use Rattle.pieces.specs.declared.placement.Offset.{Offset}
 use Rattle.pieces.specs.Pieces.{Store, count_in, held_in, axes_of, piece_at}

@@ -8,7 +8,7 @@ use Rattle.limits.specs.Numbered.{Numbered}
 use Rattle.space.specs.Lists.{LengthFits, InReach}
 use Rattle.ints.specs.Cases.{by-same, by_less}
 use Rattle.marks.specs.Marks.{Axis, axis_of, mark_place, side_of, mark_value, is_mark, earlier, InPlace, InPlaceMarks, Agree}
-use Rattle.marks.specs.Order.{mark_low, no-mark}
+use Rattle.marks.proofs.Order.{mark_low, no-mark}
 use Rattle.pieces.specs.Pieces.{Store, store_of, Sized, Taken, Loaded, PiecesInOrder, count_in, corners_of, shape_value, shape_at, axes_of, loaded_in}
 use Rattle.pieces.specs.Store.{SameAt, same_low, same_high, taken_of}
 use Rattle.pieces.specs.Storing.{sets_other, sets_at}

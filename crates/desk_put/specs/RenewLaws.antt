@@ -8,8 +8,8 @@ use Rattle.marks.specs.Marks.{Axis, axis_of, low_mark, high_mark, mark_place, si
 use Rattle.marks.specs.declared.MarkKeys.{MarkKeys}
 use Rattle.marks.specs.Keys.{key_for, key_at, Keyed, KeyedMarks, keys_put}
 use Rattle.marks.specs.Promises.{ReorderedMarks}
-use Rattle.marks.specs.Order.{at_mark, at_none}
-use Rattle.marks.specs.Buffer.{on_axis_lem}
+use Rattle.marks.proofs.Order.{at_mark, at_none}
+use Rattle.marks.proofs.Buffer.{on_axis_lem}
 use Rattle.pieces.specs.Pieces.{Store, PiecesInOrder, axes_of}
 use Rattle.pieces.specs.Store.{ranged}
 use Rattle.pieces_box.specs.ShapeBox.{Boxed, key_in}

@@ -2,9 +2,6 @@ pub mod Marks
 pub mod Keys
 pub mod Rising
 pub mod Sorted
-pub mod Order
-pub mod Cells
 pub mod Changed
 pub mod Promises
-pub mod Buffer
 pub mod Bench

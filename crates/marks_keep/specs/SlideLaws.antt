@@ -13,8 +13,8 @@ use Rattle.marks.specs.Marks.{low_mark, high_mark}
 use Rattle.marks.specs.Keys.{no_key, mark_in, key_of}
 use Rattle.marks.specs.Rising.{rises, up_head, up_make, up_none, up_less, up_same}
 use Rattle.marks.specs.Sorted.{Fine, Sorted, keyed, keyed_low, top_key, room, standing, own_standing, other_standing}
-use Rattle.marks.specs.Order.{fine, keys_are}
-use Rattle.marks.specs.Cells.{in_place, sorted}
+use Rattle.marks.proofs.Order.{fine, keys_are}
+use Rattle.marks.proofs.Cells.{in_place, sorted}
 use Rattle.marks.specs.Promises.{Reordered}
 use Rattle.marks_keep.specs.Slide.{without, Found, CarriedDown, CarriedUp, Slid}
 

@@ -18,8 +18,8 @@ use Rattle.ints.specs.Order.{lt-or-ge}
 use Rattle.marks.specs.Keys.{no_key, key_at, Keyed, key_of}
 use Rattle.marks.specs.Rising.{rises, up_head, up_make, up_none}
 use Rattle.marks.specs.Sorted.{Fine, own_key, Sorted, keyed, keyed_low, top_key, counted}
-use Rattle.marks.specs.Order.{fine, keys_are}
-use Rattle.marks.specs.Cells.{in_place, sorted}
+use Rattle.marks.proofs.Order.{fine, keys_are}
+use Rattle.marks.proofs.Cells.{in_place, sorted}
 use Rattle.marks_test.specs.Tested.{climbs, blank, marks_in, part_passes, marks_pass, Tested, TestedMarks}
 
 pub marks_most : (e : ℕ → ℕ) → marks_in e ≤ Limits.axis_marks

@@ -11,7 +11,7 @@ use Rattle.limits.specs.Limits
 use Rattle.space.specs.Lists.{Placed}
 use Rattle.turns.specs.Turns.{placed_at}
 use Rattle.marks.specs.Marks.{axis_of, mark_place, side_of, RangedMarks}
-use Rattle.marks.specs.Order.{mark_low}
+use Rattle.marks.proofs.Order.{mark_low}
 use Rattle.pieces.specs.Pieces.{Store, Taken, PiecesInOrder, held_in, turn_in, corners_of, shape_value, shape_at, turn_at, offset_at, count_at}
 use Rattle.pieces.specs.Pieces.{placed_corner, list_to, piece_at, least_to, greatest_to, lesser, greater, low_at, high_at, taken_at, axes_of}
 use Rattle.pieces.specs.Taking.{taken_decided}

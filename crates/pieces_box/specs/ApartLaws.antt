@@ -11,7 +11,7 @@ use Rattle.limits.specs.Decides.{Decides}
 use Rattle.limits.specs.DecidesLaws.{holds, decides_is}
 use Rattle.marks.specs.Marks.{Axis, axis_of, low_mark, high_mark, mark_place, mark_value, is_mark}
 use Rattle.marks.specs.Keys.{raised, key_for, Keyed}
-use Rattle.marks.specs.Order.{raised_sign, at_mark}
+use Rattle.marks.proofs.Order.{raised_sign, at_mark}
 use Rattle.pieces.specs.Pieces.{Store, Taken, axes_of}
 use Rattle.pieces.specs.Store.{taken_is}
 use Rattle.pieces.specs.Boxes.{ApartOn, Apart}

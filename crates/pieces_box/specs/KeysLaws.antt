@@ -7,7 +7,7 @@ use Rattle.ints.specs.Bounds.{Within}
 use Rattle.turns.specs.Turns.{signed_axis}
 use Rattle.marks.specs.Marks.{axis_of, is_mark, mark_value}
 use Rattle.marks.specs.Keys.{key_for, no_key, key_at, Keyed}
-use Rattle.marks.specs.Order.{at_mark, at_none}
+use Rattle.marks.proofs.Order.{at_mark, at_none}
 use Rattle.pieces.specs.Pieces.{Store, Taken, taken_in, turn_in, PiecesInOrder, axes_of, taken_at, shape_at, turn_at, offset_at, count_at}
 use Rattle.pieces.specs.Store.{taken_of, ranged}
 use Rattle.pieces_box.specs.declared.boxes.Ends.{Ends}

@@ -2,7 +2,7 @@
 -- By what `pieces` and `space` say of boxes and verdicts with no gap.
 use Rattle.std.proofs.Common.{⊎_elim, inl, inr}
 use Rattle.std.specs.Prelude.{◌↔◌, ℕ}
-use Rattle.space.specs.NoGapLaws.{verdict_plain}
+use Rattle.space.proofs.NoGapLaws.{verdict_plain}
 use Rattle.pieces.specs.Pieces.{Store, piece_at}
 use Rattle.pieces.specs.NoGapLaws.{apart_plain}
 use Rattle.rows_right.specs.Right.{RowRight}

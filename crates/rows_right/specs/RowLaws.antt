@@ -4,7 +4,7 @@ use Rattle.std.specs.Prelude.{◌≡◌, refl, ◌⊎◌, ℕ, ◌+◌, ◌*◌,
 use Rattle.std.proofs.Common.{sym, ap, ◌∙◌, subst, inl, inr, arith}
 use Rattle.limits.specs.Limits
 use Rattle.space.specs.Verdicts.{VerdictIs}
-use Rattle.space.specs.Exclusion.{verdict_once}
+use Rattle.space.proofs.ExclusionLaws.{verdict_once}
 use Rattle.space.specs.Lists.{Placed}
 use Rattle.rows.specs.Rows.{Verdict, RowPut, Handled}
 use Rattle.rows.specs.Handling.{handled_skip, handled_put}

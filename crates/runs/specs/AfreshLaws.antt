@@ -2,7 +2,7 @@
 -- Whether a place of a plan holds a piece is decided, and a pair has one row.
 use Rattle.std.specs.Prelude.{◌≡◌, List, Bool, true, false, ℕ, T, ℤ}
 use Rattle.std.proofs.Common.{sym, ◌∙◌, inl, inr, arith}
-use Rattle.space.specs.Exclusion.{verdict_once}
+use Rattle.space.proofs.ExclusionLaws.{verdict_once}
 use Rattle.rows.specs.Changes.{rows_once}
 use Rattle.ints.specs.Cases.{by_less}
 use Rattle.runs.specs.Log.{is_held, Plan}

@@ -6,7 +6,7 @@ use Rattle.ints.proofs.Quote.{sides, by_ring}
 use Rattle.limits.specs.Limits
 use Rattle.limits.specs.Lowest.{Refusal, Lowest}
 use Rattle.marks.specs.Marks.{Agree, axis_of, changed_marks}
-use Rattle.marks.specs.Buffer.{one_buffer}
+use Rattle.marks.proofs.Buffer.{one_buffer}
 use Rattle.pieces.specs.declared.placement.Placement.{Placement}
 use Rattle.pieces.specs.declared.placement.Offset.{Offset}
 use Rattle.pieces.specs.Pieces.{Taken, held_in, piece_at, taken_at, axes_of}

@@ -2,7 +2,6 @@ pub mod Exclusion
 pub mod Identities
 pub mod Lists
 pub mod NoGap
-pub mod NoGapLaws
 pub mod Ranges
 pub mod Reaching
 pub mod Vectors

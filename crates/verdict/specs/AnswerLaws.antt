@@ -6,7 +6,7 @@ use Rattle.std.proofs.Math.Decide.{ℕ_discrete}
 use Rattle.limits.specs.Limits.{done}
 use Rattle.limits.proofs.LowestLaws.{lowest_once}
 use Rattle.space.specs.Verdicts.{Piece, separate}
-use Rattle.space.specs.Exclusion.{verdict_once}
+use Rattle.space.proofs.ExclusionLaws.{verdict_once}
 use Rattle.verdict_walk.specs.NoPairs.{no_pair, no_pairs}
 use Rattle.verdict_walk.specs.GatherLaws.{none_at}
 use Rattle.verdict.specs.declared.Answer.{Answer}

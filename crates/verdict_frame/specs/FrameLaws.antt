@@ -18,7 +18,7 @@ use Rattle.space.specs.declared.Vec3.{Vec3}
 use Rattle.space.specs.Vectors.{dot, cross, minus, plus, scale, det, env1, origin, opposite, vec_eq}
 use Rattle.space.specs.Ranges.{Upto, normal_reach, upto_le}
 use Rattle.space.specs.Verdicts.{Piece, corner_count, corner_at, cube_corners, widened_at, Supported}
-use Rattle.space.specs.NoGapLaws.{unwidened}
+use Rattle.space.proofs.NoGapLaws.{unwidened}
 use Rattle.space.specs.Lists.{Placed}
 use Rattle.verdict_portal.specs.declared.Three.{Three}
 use Rattle.verdict_portal.specs.Flat.{had, vec, ones, unit, next_axis, coordinate, axis, had_plus}

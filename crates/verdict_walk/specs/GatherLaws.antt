@@ -19,7 +19,7 @@ use Rattle.space.specs.declared.Pair.{Pair}
 use Rattle.space.specs.Vectors.{det}
 use Rattle.space.specs.Ranges.{Upto, point_reach, weight_reach}
 use Rattle.space.specs.Verdicts.{Piece, cube_corners, widened_at, difference_of, weighted, Fair}
-use Rattle.space.specs.NoGapLaws.{unwidened}
+use Rattle.space.proofs.NoGapLaws.{unwidened}
 use Rattle.verdict_walk.specs.declared.support.Difference.{Difference}
 use Rattle.verdict_walk.specs.declared.path.Ended.{Ended}
 use Rattle.verdict_walk.specs.declared.gather.Gathered.{Gathered}

@@ -14,7 +14,7 @@ use Rattle.space.specs.Vectors.{dot, minus, plus, env1, origin, opposite, vec_eq
 use Rattle.space.specs.Ranges.{Upto, point_reach, normal_reach, upto_le}
 use Rattle.space.specs.Verdicts.{Piece, corner_count, corner_at, cube_corners, side, cube_corner, widened_at, Below, Supported}
 use Rattle.space.specs.NoGap.{PlainBelow, PlainSupported}
-use Rattle.space.specs.NoGapLaws.{below_plain, supported_plain}
+use Rattle.space.proofs.NoGapLaws.{below_plain, supported_plain}
 use Rattle.space.specs.Lists.{Placed}
 use Rattle.verdict_portal.specs.Flat.{had, vec, Sign, Signs}
 use Rattle.verdict_portal.specs.Rounds.{dot_within}

@@ -1,5 +1,4 @@
 -- The list has the key of a number that a mark can be; any other number has no_key.
-use borrow.Author.Rules.{rules}
 use mathlib.Core.Path.{ap, sym, ◌∙◌}
 use mathlib.Core.Bool.{Bool, cond}
 use Rattle.limits.specs.Limits

@@ -11,7 +11,7 @@ use Rattle.limits.specs.Limits
 use Rattle.ints.specs.Bounds.{Within, fits, worth}
 use Rattle.ints.proofs.Known.{known}
 use Rattle.marks.specs.Keys.{raised}
-use Rattle.marks.specs.Order.{raised_most, raised_sign}
+use Rattle.marks.proofs.Order.{raised_most, raised_sign}
 use Rattle.marks.proofs.mark_key.Goals as goal
 
 sum_fits : (v : ℤ) → Within Limits.placed_reach v → SFits w32 (to_z w32 (of_z w32 v) +ℤ pos Limits.placed_reach)

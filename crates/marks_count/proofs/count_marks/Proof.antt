@@ -2,7 +2,7 @@
 use borrow.Author.Rules.{rules}
 use native.Mathlib.Omega.{arith}
 use Rattle.marks.specs.Marks.{axis_of}
-use Rattle.marks.specs.Buffer.{on_axis_lem}
+use Rattle.marks.proofs.Buffer.{on_axis_lem}
 use Rattle.marks_count.proofs.count_marks.Statement.{statement}
 use Rattle.marks_count.proofs.count_marks.Tie as tie
 

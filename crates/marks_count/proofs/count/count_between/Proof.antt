@@ -5,7 +5,8 @@ use Prim.Native.Nat.{ℕ, ◌+◌, ◌-◌, ◌*◌, ◌≤◌}
 use native.Mathlib.Omega.{arith}
 use lib.ListN.{get_or}
 use Rattle.ints.specs.Counts.{sum_to, sum_more}
-use Rattle.marks.specs.Changed.{crossed_with, crossed≤}
+use Rattle.marks.specs.Changed.{crossed_with}
+use Rattle.marks.proofs.ChangedLaws.{crossed≤}
 use Rattle.marks_count.proofs.count.count_between.Statement.{statement}
 use Rattle.marks_count.proofs.count.count_between.Tie as tie
 

@@ -2,7 +2,8 @@
 use borrow.Author.Rules.{rules}
 use native.Mathlib.Omega.{arith}
 use mathlib.Core.Path.{◌∙◌}
-use Rattle.marks.specs.Changed.{in_two, changed_keys≤, true_count}
+use Rattle.marks.proofs.ChangedLaws.{true_count}
+use Rattle.marks.proofs.ChangedLaws.{in_two, changed_keys≤}
 use Rattle.marks_count.proofs.count.count_changed.Statement.{statement}
 use Rattle.marks_count.proofs.count.count_changed.Tie as tie
 

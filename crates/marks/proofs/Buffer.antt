@@ -5,7 +5,7 @@ use Rattle.std.proofs.Common.{ap, sym, ◌∙◌, arith, length-drop, take-appen
 use Rattle.std.proofs.lemmas.List.{length-replicate}
 use Rattle.limits.specs.Limits
 use Rattle.marks.specs.Marks.{Axes, axis_of, InPlaceMarks, RangedMarks, OthersStayOn, OthersStayMarks, part_x, part_y, part_z}
-use Rattle.marks.specs.Cells.{one_part, none_in_place}
+use Rattle.marks.proofs.Cells.{one_part, none_in_place}
 
 -- the three parts are the whole
 pub whole : (marks : List ℕ) → length marks ≡ Limits.marks → marks ≡ part_x marks ++ (part_y marks ++ part_z marks)

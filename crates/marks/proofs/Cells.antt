@@ -11,7 +11,7 @@ use Rattle.ints.specs.Order.{lt-or-ge}
 use Rattle.marks.specs.Keys.{key_at}
 use Rattle.marks.specs.Rising.{up_at, up_from, up_none, fill_up_lem}
 use Rattle.marks.specs.Sorted.{Sorted, own_key, keyed, top_key, member, only, in_order, sorted_is}
-use Rattle.marks.specs.Order.{mark_low, small_at, keyed_is, fine, key_decides}
+use Rattle.marks.proofs.Order.{mark_low, small_at, keyed_is, fine, key_decides}
 
 module _ (a : Axis) (r : Ranged a) (xs : List ℕ) where
   abbrev e : ℕ → ℕ

@@ -1,0 +1,4 @@
+pub mod Order
+pub mod Cells
+pub mod Buffer
+pub mod ChangedLaws

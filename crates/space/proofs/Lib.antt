@@ -1,0 +1,2 @@
+pub mod ExclusionLaws
+pub mod NoGapLaws
