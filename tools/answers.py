@@ -122,6 +122,8 @@ class Function:
                 return root
             if norm(parts[0]) not in self.steps and norm(parts[0]).endswith("-lem") and norm(parts[0])[:-4] in self.steps:
                 parts[0] = norm(parts[0])[:-4]
+            if norm(parts[0]) not in self.steps and norm(parts[0]).lower() in self.steps:
+                parts[0] = norm(parts[0]).lower()
             if norm(parts[0]) in self.steps:
                 parts[0] = self.steps[norm(parts[0])]
             if len(parts) > 1:

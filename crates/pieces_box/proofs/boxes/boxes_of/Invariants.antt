@@ -9,7 +9,7 @@ use lib.ListN.{length}
 use lib.Seq.{length-sets}
 use Rattle.limits.specs.Limits
 use Rattle.pieces_box.specs.ShapeBox.{box_cells, box_list, box_in, BoxAt}
-use Rattle.pieces_box.specs.ShapeLaws.{boxes_more}
+use Rattle.pieces_box.proofs.ShapeLaws.{boxes_more}
 use borrow.Author.Rules.{rules}
 use Rattle.pieces_box.proofs.boxes.boxes_of.Given as goal
 

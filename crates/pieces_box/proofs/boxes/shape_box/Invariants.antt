@@ -6,7 +6,7 @@ use native.Mathlib.Omega.{arith}
 use mir.Syntax.{w32}
 use Rattle.ints.specs.Bounds.{element}
 use Rattle.pieces_box.specs.ShapeBox.{box_to}
-use Rattle.pieces_box.specs.ShapeLaws.{at, box_first, box_more}
+use Rattle.pieces_box.proofs.ShapeLaws.{at, box_first, box_more}
 use borrow.Author.Rules.{rules}
 use Rattle.pieces_box.proofs.boxes.shape_box.Given as goal
 

@@ -5,7 +5,7 @@ use lib.IntN.{ℤ}
 use mir.Syntax.{w32}
 use mir.ValLaws.{to_z-of_z}
 use Rattle.pieces_box.specs.ShapeBox.{stretched}
-use Rattle.pieces_box.specs.ShapeLaws.{box_eq}
+use Rattle.pieces_box.proofs.ShapeLaws.{box_eq}
 use borrow.Author.Rules.{rules}
 use Rattle.pieces_box.proofs.boxes.widened.Goals as goal
 

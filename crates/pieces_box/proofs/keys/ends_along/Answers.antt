@@ -20,7 +20,7 @@ use Rattle.turns.specs.Turns.{axis_number}
 use Rattle.pieces_box.specs.declared.boxes.Ends.{Ends}
 use Rattle.pieces_box.specs.ShapeBox.{ends_on, opposed, box_in, NearEnds, NearBox}
 use Rattle.pieces_box.specs.NearLaws.{near_on, ends_read}
-use Rattle.pieces_box.specs.TurnedLaws.{ends_eq}
+use Rattle.pieces_box.proofs.TurnedLaws.{ends_eq}
 use Rattle.pieces_box.proofs.keys.ends_along.Goals as goal
 
 back : {v : ℤ} → Within Limits.shape_reach v → to_z w32 (of_z w32 v) ≡ v

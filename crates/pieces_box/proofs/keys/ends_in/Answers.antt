@@ -18,7 +18,7 @@ use Rattle.pieces.specs.Pieces.{held_in, turn_in}
 use Rattle.pieces_box.specs.declared.boxes.Ends.{Ends}
 use Rattle.pieces_box.specs.ShapeBox.{box_in, box_held, ends_along, moved_by, NearBox, NearEnds}
 use Rattle.pieces_box.specs.NearLaws.{near_along}
-use Rattle.pieces_box.specs.TurnedLaws.{ends_eq}
+use Rattle.pieces_box.proofs.TurnedLaws.{ends_eq}
 use Rattle.pieces_box.proofs.keys.ends_in.Goals as goal
 
 sum_fits : (v o : ℤ) → Within Limits.shape_reach v → Within Limits.shape_reach o → SFits w32 (to_z w32 (of_z w32 v) +ℤ to_z w32 (of_z w32 o))

@@ -15,7 +15,7 @@ use Rattle.pieces.specs.Pieces.{Taken, store_of, taken_in}
 use Rattle.pieces.specs.Store.{taken_is, empty-is}
 use Rattle.pieces_box.specs.declared.boxes.Ends.{Ends}
 use Rattle.pieces_box.specs.ShapeBox.{ends_in}
-use Rattle.pieces_box.specs.KeysLaws.{key_none, key_low, key_high, placed_ends}
+use Rattle.pieces_box.proofs.KeysLaws.{key_none, key_low, key_high, placed_ends}
 use borrow.Author.Rules.{rules}
 use Rattle.pieces_box.proofs.keys.keys_at.Goals as goal
 

@@ -6,7 +6,7 @@ use mathlib.Core.List.{List}
 use native.Mathlib.Omega.{arith}
 use Rattle.limits.specs.Limits
 use Rattle.pieces_box.specs.ShapeBox.{KeysTo}
-use Rattle.pieces_box.specs.KeysLaws.{keys_none, keys_more, keys_all}
+use Rattle.pieces_box.proofs.KeysLaws.{keys_none, keys_more, keys_all}
 use borrow.Author.Rules.{rules}
 use Rattle.pieces_box.proofs.keys.put_keys.Goals as goal
 

@@ -11,7 +11,7 @@ use Rattle.pieces.specs.Storing.{sets_at, sets_other}
 use Rattle.pieces_box.specs.declared.boxes.Ends.{Ends}
 use Rattle.pieces_box.specs.declared.boxes.ShapeBox.{ShapeBox}
 use Rattle.pieces_box.specs.ShapeBox.{on_axis, ends_to, box_to, ends_from, stretched, box_from, widened, box_cells, box_list, box_number, box_in, BoxAt}
-use Rattle.pieces_box.specs.TurnedLaws.{ends_eq}
+use Rattle.pieces_box.proofs.TurnedLaws.{ends_eq}
 
 pub box_eq : {a b c e f g : Ends} → a ≡ b → c ≡ e → f ≡ g → ◌≡◌ {A = ShapeBox} (record { x = a; y = c; z = f }) (record { x = b; y = e; z = g })
 box_eq p q r = λ i. record { x = p i; y = q i; z = r i }

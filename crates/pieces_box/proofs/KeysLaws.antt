@@ -14,7 +14,7 @@ use Rattle.pieces_box.specs.declared.boxes.Ends.{Ends}
 use Rattle.pieces_box.specs.declared.boxes.ShapeBox.{ShapeBox}
 use Rattle.pieces_box.specs.ShapeBox.{ends_along, moved_by, box_of, box_held, ends_in, Boxed, NearBox, EndsAsked, AllAsked, key_in, KeysIn, KeysTo}
 use Rattle.pieces_box.specs.NearLaws.{near_box, near_along, moved_near}
-use Rattle.pieces_box.specs.TurnedLaws.{ends_of, ends_turned}
+use Rattle.pieces_box.proofs.TurnedLaws.{ends_of, ends_turned}
 
 module _ {d : Store} {boxes : List ℤ} (o : PiecesInOrder d) (b : Boxed d.shapes boxes) where
   module _ {p : ℕ} (t : Taken d.places p) where
