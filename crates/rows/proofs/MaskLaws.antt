@@ -13,7 +13,7 @@ use Rattle.limits.specs.DecidesLaws.{holds, fails}
 use Rattle.pieces.specs.Taking.{by_taken}
 use Rattle.rows.specs.Rows.{PairOf, RowsInOrder}
 use Rattle.rows.specs.Cells.{CellInOrder, LineInOrder, every_line, each_line}
-use Rattle.rows.specs.Handling.{by_pair}
+use Rattle.rows.proofs.Handling.{by_pair}
 use Rattle.rows.specs.Masks.{MaskByte, MaskOf, MaskFrom, Masked, wrong_bits, LineMasked}
 
 -- ---- bits

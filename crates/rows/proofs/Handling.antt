@@ -1,6 +1,6 @@
 -- Laws for the commands of a desk: rows stay in order when a place is emptied and its rows are cleared, and when the rows of a handled place
 -- are put one after the other. A desk started afresh has its rows in order.
-use Rattle.std.specs.Prelude.{ℕ, ◌+◌, ◌*◌, ◌<◌, ◌≡◌, refl, List, ◌⊎◌, ℤ, length, get_or, replicate}
+use Rattle.std.specs.Prelude.{ℕ, ◌+◌, ◌<◌, ◌≡◌, refl, List, ◌⊎◌, ℤ, length, replicate}
 use Rattle.std.proofs.Common.{sym, ◌∙◌, subst, inl, inr, ⊎_elim, arith}
 use Rattle.std.proofs.lemmas.List.{length-replicate, get_or-replicate}
 use Rattle.limits.specs.Limits
