@@ -5,7 +5,7 @@ use Rattle.std.proofs.Common.{sym, subst}
 use Rattle.limits.specs.Limits
 use Rattle.rows.specs.Rows.{Handled, Cleared}
 use Rattle.rows_tally.specs.Tallies.{BookFollows}
-use Rattle.rows.specs.Handling.{rows_after_clearing, rows_after_handling}
+use Rattle.rows.proofs.Handling.{rows_after_clearing, rows_after_handling}
 use Rattle.marks.specs.Marks.{OthersStayMarks, InPlaceMarks}
 use Rattle.marks.specs.Keys.{KeyedMarks}
 use Rattle.pieces.specs.Boxes.{PlacedPiece}

@@ -1,7 +1,6 @@
 -- `rows::mask_of` meets its contract: the test decides whether the place is taken.
 -- Assumes nothing.
 use mathlib.Core.Path.{refl}
-use borrow.Author.Rules.{rules}
 use Rattle.rows.proofs.mask_of.Goals as goal
 
 pub returns-then-is_taken : goal.returns-then-is_taken

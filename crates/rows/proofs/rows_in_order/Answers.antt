@@ -1,14 +1,8 @@
 -- `rows::rows_in_order` meets its contract. The invariant: the mask is that of the places from `low` on, and what was gathered is 0 exactly when
 -- the lines so far are in order. The measure is how many lines are left.
-use Prim.Native.Nat.{ℕ, ◌≤◌, ◌<◌, ◌-◌}
 use native.Mathlib.Omega.{arith}
-use lib.Dec.{eqb}
-use borrow.Author.Rules.{rules}
-use Rattle.limits.specs.Decides.{Decides}
-use Rattle.limits.specs.Limits
-use Rattle.rows.specs.Masks.{MaskFrom}
 use Rattle.rows.specs.Cells.{LineInOrder}
-use Rattle.rows.specs.MaskLaws.{gathered_none, gathered_more, mask_byte, mask_more, line_decided, lines_decided}
+use Rattle.rows.proofs.MaskLaws.{gathered_none, gathered_more, mask_byte, mask_more, line_decided, lines_decided}
 use Rattle.rows.proofs.rows_in_order.Goals as goal
 
 pub loop-low-init : goal.loop-low-init

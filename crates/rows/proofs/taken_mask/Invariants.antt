@@ -1,13 +1,10 @@
 -- `rows::taken_mask` meets its contract. The invariant: the bytes of the places so far are theirs.
 -- The measure is how many places are left.
 use Prim.Native.Nat.{ℕ, ◌≤◌, ◌<◌, ◌-◌}
-use mathlib.Core.Path.{◌≡◌, ◌∙◌}
-use native.Mathlib.Omega.{arith}
-use lib.ListN.{length, get_or, length-set}
-use borrow.Author.Rules.{rules}
+use mathlib.Core.Path.{◌≡◌}
+use lib.ListN.{length, get_or}
 use Rattle.limits.specs.Limits
 use Rattle.rows.specs.Masks.{MaskOf}
-use Rattle.rows.specs.MaskLaws.{mask_made}
 use Rattle.rows.proofs.taken_mask.Given as goal
 
 abbrev pub invariant-loop-place : goal.invariant-loop-place

@@ -1,17 +1,16 @@
 -- `rows::wrong_in_line` meets its contract. The invariant: what was gathered is 0 exactly when the cells so far are right.
 -- The measure is how many cells of the line are left.
-use Prim.Native.Nat.{ℕ, ◌≤◌, ◌<◌, ◌-◌}
+use Prim.Native.Nat.{ℕ, ◌<◌}
 use mathlib.Core.Path.{◌≡◌, subst}
 use native.Mathlib.Omega.{arith}
 use lib.Bits.{bit_or}
 use lib.Dec.{eqb}
 use lib.ListN.{get_or}
-use borrow.Author.Rules.{rules}
 use Rattle.limits.specs.Decides.{Decides}
 use Rattle.limits.specs.Limits
 use Rattle.rows.specs.Rows.{cell}
 use Rattle.rows.specs.Masks.{Masked, wrong_bits, LineMasked}
-use Rattle.rows.specs.MaskLaws.{gathered_none, gathered_more, cell_decided, or_byte}
+use Rattle.rows.proofs.MaskLaws.{gathered_none, gathered_more, cell_decided, or_byte}
 use Rattle.rows.proofs.wrong_in_line.Goals as goal
 
 pub loop-high-init : goal.loop-high-init
