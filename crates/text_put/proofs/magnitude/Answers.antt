@@ -1,8 +1,7 @@
 -- `text_put::magnitude` meets its contract: a number below zero is -(a + 1), and a fits.
-use Prim.Native.Nat.{ℕ, zero, suc, ◌<◌, ◌+◌, ◌-◌, ◌^◌}
+use Prim.Native.Nat.{ℕ, zero, suc, ◌<◌, ◌-◌, ◌^◌}
 use mathlib.Core.Path.{◌≡◌, refl, sym, ap, ◌∙◌, subst}
 use mathlib.Core.Bool.{true, false, false≢true}
-use borrow.Author.Rules.{rules}
 use borrow.Author.Tests.{ltb-true}
 use native.Mathlib.Omega.{arith}
 use lib.Dec.{T}
@@ -12,8 +11,7 @@ use mir.Syntax.{w64}
 use mir.Val.{Fits, SFits, to_z, of_z}
 use mir.Facts.{to_z-of_z}
 use Rattle.ints.specs.Order.{subℕ-lt}
-use Rattle.text_put.proofs.magnitude.Statement.{statement}
-use Rattle.text_put.proofs.magnitude.Tie as tie
+use Rattle.text_put.proofs.magnitude.Goals as goal
 
 -- a number below zero, one more than it, and that number turned
 record Below (n : ℤ) : Type 0 where
@@ -59,29 +57,23 @@ from_zero : (n : ℤ) → SFits w64 n → lt_z n (pos 0) ≡ false → Natural n
 from_zero (pos n) f t = (tt, record { fits = omega (arith, f.sfits) })
 from_zero (negsuc n) f t = absurd (false≢true (sym t))
 
-abbrev known : (c : tie.Then1) → Below c.before.args.n
-known c = below c.before.args.n c.before.ranges.n (ap (λ z. lt_z z (pos 0)) (sym (to_z-of_z c.before.ranges.n)) ∙ c.if1.true)
+abbrev known : (c : goal.Then-n-lt0) → Below c.args.n
+known c = below c.args.n c.ranges.n (ap (λ z. lt_z z (pos 0)) (sym (to_z-of_z c.ranges.n)) ∙ c.if-n-lt0.true)
 
-add-result : tie.Need-overflow-add-result
-add-result c = more_fits _ c.before.ranges.n (known c)
+pub overflow_add-result : goal.overflow_add-result
+overflow_add-result c = more_fits _ c.ranges.n (known c)
 
-sub-result : tie.Need-overflow-sub-result
-sub-result c = turned_fits _ c.before.ranges.n (known c)
+pub overflow_sub-result : goal.overflow_sub-result
+overflow_sub-result c = turned_fits _ c.ranges.n (known c)
 
-cast-result : tie.Need-overflow-cast-result
-cast-result c = subst Natural (sym (read_is _ c.before.ranges.n (known c))) (tt, record { fits = omega (arith, (known c).ranges) })
+pub overflow_cast-result : goal.overflow_cast-result
+overflow_cast-result c = subst Natural (sym (read_is _ c.ranges.n (known c))) (tt, record { fits = omega (arith, (known c).fits) })
 
-add-result-2 : tie.Need-overflow-add-result-2
-add-result-2 c = let e = ap nat_abs (read_is _ c.before.ranges.n (known c)) in record { fits = omega (arith, e, (known c).ranges) }
+pub overflow_add-result-then-n-lt0 : goal.overflow_add-result-then-n-lt0
+overflow_add-result-then-n-lt0 c = let e = ap nat_abs (read_is _ c.ranges.n (known c)) in record { fits = omega (arith, e, (known c).fits) }
 
-returns : tie.Need-returns
-returns c = let e = ap nat_abs (read_is _ c.before.ranges.n (known c)) in omega (arith, e, ap nat_abs (known c).is)
+pub returns-then-n-lt0 : goal.returns-then-n-lt0
+returns-then-n-lt0 c = let e = ap nat_abs (read_is _ c.ranges.n (known c)) in omega (arith, e, ap nat_abs (known c).is)
 
-cast-result-2 : tie.Need-overflow-cast-result-2
-cast-result-2 c = let e = to_z-of_z c.before.ranges.n in subst Natural (sym e) (from_zero _ c.before.ranges.n (ap (λ z. lt_z z (pos 0)) (sym e) ∙ c.if1.false))
-
-returns-2 : tie.Need-returns-2
-returns-2 c = search rules
-
-pub magnitude-spec : {M : Type 1} → statement M
-magnitude-spec = tie.close (tie.spec add-result sub-result cast-result add-result-2 returns cast-result-2 returns-2)
+pub overflow_cast-result-2 : goal.overflow_cast-result-2
+overflow_cast-result-2 c = let e = to_z-of_z c.ranges.n in subst Natural (sym e) (from_zero _ c.ranges.n (ap (λ z. lt_z z (pos 0)) (sym e) ∙ c.if-n-lt0.false))

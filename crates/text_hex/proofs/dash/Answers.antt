@@ -6,8 +6,7 @@ use mathlib.Core.Logic.{inl, inr}
 use native.Mathlib.Omega.{arith}
 use lib.ListN.{get_or}
 use Rattle.text_hex.specs.Hex.{bytes_of, IsText}
-use Rattle.text_hex.proofs.dash.Statement.{statement}
-use Rattle.text_hex.proofs.dash.Tie as tie
+use Rattle.text_hex.proofs.dash.Goals as goal
 
 -- no other byte alone is a text
 other : (b : ℕ) → (b ≡ 45 → ⊥) → IsText (b ∷ []) → ⊥
@@ -15,12 +14,9 @@ unfolding bytes_of
 other b n (inl e) = n (ap (λ (l : List ℕ). get_or l 0 0) e)
 other b n (inr h) = omega (arith, h.1)
 
-returns : tie.Need-returns
+pub returns-then-b-eq45 : goal.returns-then-b-eq45
 unfolding bytes_of
-returns c = (inl (ap (λ (b : ℕ). b ∷ []) c.if1.true), refl)
+returns-then-b-eq45 c = (inl (ap (λ (b : ℕ). b ∷ []) c.if-b-eq45.true), refl)
 
-returns-2 : tie.Need-returns-2
-returns-2 c = other c.before.args.b c.if1.false
-
-pub dash-spec : {M : Type 1} → statement M
-dash-spec = tie.close (tie.spec returns returns-2)
+pub returns : goal.returns
+returns c = other c.args.b c.if-b-eq45.false
