@@ -4,7 +4,7 @@ use mathlib.Core.Path.{◌≡◌, ap, ◌∙◌}
 use native.Mathlib.Omega.{arith}
 use lib.ListN.{length, take}
 use lib.Seq.{take-length}
-use Rattle.line_input.specs.InputLaws.{bare_none, bare_ended, bare_other}
+use Rattle.line_input.proofs.InputLaws.{bare_none, bare_ended, bare_other}
 use borrow.Author.Rules.{rules}
 use Rattle.line_input.proofs.bare.Statement.{statement}
 use Rattle.line_input.proofs.bare.Tie as tie

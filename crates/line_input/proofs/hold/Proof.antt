@@ -1,5 +1,5 @@
 -- `line_input::hold` meets its contract: a byte more where there is room, and none where there is not.
-use Rattle.line_input.specs.InputLaws.{holds_more, holds_full}
+use Rattle.line_input.proofs.InputLaws.{holds_more, holds_full}
 use native.Mathlib.Omega.{arith}
 use borrow.Author.Rules.{rules}
 use Rattle.line_input.proofs.hold.Statement.{statement}
