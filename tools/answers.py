@@ -120,10 +120,16 @@ class Function:
             parts = parts[k:]
             if not parts:
                 return root
+            if norm(parts[0]) not in self.steps and norm(parts[0]).endswith("-lem") and norm(parts[0])[:-4] in self.steps:
+                parts[0] = norm(parts[0])[:-4]
+            if norm(parts[0]) not in self.steps and norm(parts[0]).lower() in self.steps:
+                parts[0] = norm(parts[0]).lower()
             if norm(parts[0]) in self.steps:
                 parts[0] = self.steps[norm(parts[0])]
             if len(parts) > 1:
                 parts[1] = self.fields.get(parts[0], {}).get(parts[1], parts[1])
+            if parts[0] == "pre":
+                parts[0] = "requires"
             parts = [{"well-formed": "well_formed", "type-inv": "type_inv"}.get(x, x) for x in parts]
             return ".".join([root] + parts)
 
@@ -156,6 +162,42 @@ def use_helper(value, h, inlined):
     if not re.search(pattern, value):
         return value
     return "\n    " + inlined[h] + "\n    " + re.sub(pattern, h, value).lstrip("\n ")
+
+
+def tuple_parts(value):
+    """What stands before a value's last tuple, and that tuple's parts; None where it does not end in one."""
+    s = value.rstrip()
+    if not s.endswith(")"):
+        return None
+    depth, i = 0, len(s) - 1
+    while i >= 0:
+        if s[i] in ")]}":
+            depth += 1
+        elif s[i] in "([{":
+            depth -= 1
+            if depth == 0:
+                break
+        i -= 1
+    head = s[:i]
+    if head.strip() and not re.search(r"\bin\s*$", head):
+        return None
+    parts, depth, start = [], 0, i + 1
+    for k in range(i + 1, len(s) - 1):
+        if s[k] in "([{":
+            depth += 1
+        elif s[k] in ")]}":
+            depth -= 1
+        elif s[k] == "," and depth == 0:
+            parts.append(s[start:k].strip())
+            start = k + 1
+    last = s[start:-1].strip()
+    if last:
+        inner = tuple_parts(last) if last.startswith("(") and last.endswith(")") else None
+        if inner and not inner[0].strip() and len(inner[1]) > 1:
+            parts.extend(inner[1])
+        else:
+            parts.append(last)
+    return head + " ", parts
 
 
 def convert(f, folder, crate, rel, text):
@@ -243,7 +285,7 @@ def convert(f, folder, crate, rel, text):
                 short = norm(need[len(pre):]) if need.startswith(pre) else None
                 if short and short in f.goal:
                     break
-            goal = f.goal.get(short) or f.goal.get(norm(need))
+            goal = f.goal.get(short) or f.goal.get(norm(need)) or f.goal.get(norm(need).replace("-lem-", "-"))
             term = body[m.end():]
             term = re.sub(r"^(unfolding[^\n]*\n)?" + re.escape(m.group(1)) + r"((?: \S+)*?) =", lambda q: (q.group(1) or "") + "@ " + q.group(2).strip() + " =", term)
             q = re.match(r"(unfolding[^\n]*\n)?@ (.*?) =(.*)$", term, re.S)
@@ -269,8 +311,9 @@ def convert(f, folder, crate, rel, text):
             names = [goal]
             if clauses and len(clauses) > 1 and not value.strip().startswith("record"):
                 names = [f"{goal}-clause-{x}" for x in clauses]
+            parts = tuple_parts(value) if len(names) > 1 else None
             for i, nm in enumerate(names):
-                v = value
+                v = parts[0] + parts[1][i] if parts and len(parts[1]) == len(names) else value
                 for h in reversed(list(inlined)):
                     v = use_helper(v, h, inlined)
                 ans_lines.append((c + "\n" if c and i == 0 else "") + f"pub {nm} : goal.{nm}\n{unf}{nm} {' '.join(args)} ={v}")

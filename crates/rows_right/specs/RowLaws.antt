@@ -7,7 +7,7 @@ use Rattle.space.specs.Verdicts.{VerdictIs}
 use Rattle.space.proofs.ExclusionLaws.{verdict_once}
 use Rattle.space.specs.Lists.{Placed}
 use Rattle.rows.specs.Rows.{Verdict, RowPut, Handled}
-use Rattle.rows.specs.Handling.{handled_skip, handled_put}
+use Rattle.rows.proofs.Handling.{handled_skip, handled_put}
 use Rattle.verdict.specs.Answers.{Carries}
 use Rattle.verdict.specs.declared.Answer.{Answer}
 use Rattle.pieces.specs.Pieces.{Store, piece_at, count_at, Taken}

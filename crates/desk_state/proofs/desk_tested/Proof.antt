@@ -5,7 +5,7 @@ use native.Mathlib.Omega.{arith}
 use lib.Dec.{T}
 use Rattle.limits.specs.DecidesLaws.{fails, unless_taken, unless_left}
 use Rattle.pieces.specs.Pieces.{store_of, PiecesInOrder}
-use Rattle.pieces_box.specs.KeysLaws.{all_asked}
+use Rattle.pieces_box.proofs.KeysLaws.{all_asked}
 use Rattle.desk_state.specs.OrderLaws.{worked, order_decided}
 use borrow.Author.Rules.{rules}
 use Rattle.desk_state.proofs.desk_tested.Statement.{statement}

@@ -6,7 +6,7 @@ use Prim.Native.Nat.{◌≤◌, ◌-◌}
 use native.Mathlib.Omega.{arith}
 use Rattle.limits.specs.Limits
 use Rattle.rows.specs.Rows.{Handled}
-use Rattle.rows.specs.Handling.{handled_none}
+use Rattle.rows.proofs.Handling.{handled_none}
 use Rattle.rows_tally.specs.Tallies.{BookFollows}
 use Rattle.pieces.specs.Pieces.{store_of}
 use Rattle.rows_right.specs.Right.{RowRight}
