@@ -1,11 +1,10 @@
 -- Laws of an input as it arrives: feeding a and then b is feeding a ++ b (`fed_more_lem`), and what was fed from the start is the cut of the input (`fed_lines`).
 -- Then what a buffer keeps of a part, and a line without its byte 13.
-use Rattle.std.specs.Prelude.{ℕ, zero, suc, ◌+◌, ◌-◌, ◌≤◌, ◌<◌, min, ◌≡◌, refl, List, [], ◌∷◌, ◌++◌, map, length, get_or, take, set}
+use Rattle.std.specs.Prelude.{ℕ, zero, suc, ◌+◌, ◌≤◌, ◌<◌, min, ◌≡◌, refl, List, [], ◌∷◌, ◌++◌, map, length, get_or, take, set}
 use Rattle.std.proofs.Common.{sym, ap, ◌∙◌, subst, append-nil, append_assoc, add-one, arith, length-append, length-take, length-set, take_all, take-suc-set}
-use Rattle.std.proofs.Math.Logic.{ite, if_pos, if_neg}
+use Rattle.std.proofs.Math.Logic.{if_pos, if_neg}
 use Rattle.std.proofs.Math.Decide.{ℕ_discrete}
 use Rattle.std.proofs.lemmas.List.{take-append-le}
-use Rattle.std.proofs.Math.Seq.{append_snoc}
 use Rattle.text_cut.specs.Cuts.{Uncut, Cut, last, cut, parts_of}
 use Rattle.text_cut.proofs.CutLaws.{cut_is}
 use Rattle.line_input.specs.Input.{end_byte, return_byte, bare, lines_of, Fed, ended_first, fed, fed_more, held_bytes, Holds}
