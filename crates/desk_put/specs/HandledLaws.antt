@@ -12,7 +12,7 @@ use Rattle.pieces.specs.Boxes.{PlacedPiece}
 use Rattle.pieces.specs.declared.placement.Placement.{Placement}
 use Rattle.pieces.specs.Pieces.{Store, store_of, Sized, Taken, OthersStay, PiecesInOrder, axes_of, put_in, emptied_in}
 use Rattle.pieces_box.specs.ShapeBox.{AllAsked}
-use Rattle.pieces_box.specs.KeysLaws.{all_asked}
+use Rattle.pieces_box.proofs.KeysLaws.{all_asked}
 use Rattle.desk_state.specs.Desk.{Desk, gap_of, InOrder, put_at, emptied_at}
 use Rattle.desk_state.specs.Worked.{Worked}
 use Rattle.rows_right.specs.Right.{RowRight}

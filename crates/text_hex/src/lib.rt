@@ -26,7 +26,7 @@ const PATTERN_DIGITS: usize = 8;
 const BASE: u64 = 16;
 
 // What is taken from a letter for its worth: A is worth ten.
-const UPPER: u8 = b'_a' - 10;
+const UPPER: u8 = b'A' - 10;
 
 const LOWER: u8 = b'a' - 10;
 
@@ -132,7 +132,7 @@ fn worth(b: u8) -> u64
     if within(b, b'0', b'9') {
         return (b - b'0') as u64;
     }
-    if within(b, b'_a', b'_f') {
+    if within(b, b'A', b'F') {
         return (b - UPPER) as u64;
     }
     if within(b, b'a', b'f') {
