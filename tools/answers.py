@@ -75,8 +75,39 @@ def comments(b):
     return "\n".join(l for l in b.split("\n") if l.startswith("--"))
 
 
+def clause_names(top):
+    """Of each function of the repository, crate::module::name, the names of its requires and of its ensures."""
+    out = {}
+    for folder, _, files in os.walk(os.path.join(top, "crates")):
+        if os.path.basename(folder) != "src":
+            continue
+        crate = os.path.basename(os.path.dirname(folder))
+        for f in files:
+            if not f.endswith(".rt"):
+                continue
+            module = [] if f in ("lib.rt", "main.rt") else [f[:-3]]
+            name, got = None, None
+            for l in open(os.path.join(folder, f), encoding="utf-8"):
+                m = re.match(r"\s*(?:pub )?(?:extern \"C\" )?(?:const )?fn (\w+)", l)
+                if m:
+                    name = m.group(1)
+                    got = {"requires": [], "ensures": []}
+                    out["::".join([crate] + module + [name])] = got
+                m = re.match(r"\s+(requires|ensures)(?: (\w+))? \{", l)
+                if m and got is not None:
+                    got[m.group(1)].append(m.group(2))
+                if l.startswith("{"):
+                    got = None
+    return out
+
+
 class Function:
-    def __init__(self, info):
+    def __init__(self, info, own, known):
+        self.own, self.known = known.get(own, {}), known
+        self.called = {}
+        for p in info["places"]:
+            if p[3] and p[2][1]:
+                self.called[p[2][1]] = p[3]
         self.goal = {}
         self.steps = {}
         self.fields = {}
@@ -130,15 +161,41 @@ class Function:
                 parts[1] = self.fields.get(parts[0], {}).get(parts[1], parts[1])
             if parts[0] == "pre":
                 parts[0] = "requires"
+            if len(parts) > 2 and parts[1] == "ensures" and parts[2].isdigit():
+                parts = parts[:2] + self.clause(parts[0], parts[2:])
+            own = self.own.get("requires", [])
+            if len(parts) > 1 and parts[0] == "requires" and parts[1].isdigit() and len(own) > 1 and int(parts[1]) < len(own) and own[int(parts[1])]:
+                parts[1] = own[int(parts[1])]
             parts = [{"well-formed": "well_formed", "type-inv": "type_inv"}.get(x, x) for x in parts]
             return ".".join([root] + parts)
 
-        return PATH.sub(turn, text)
+        text = PATH.sub(turn, text)
+        for m in list(re.finditer(r"let (" + W + r") = c\.(" + W + r")\.ensures in", text)):
+            alias, step = m.group(1), m.group(2)
+            if self.called.get(step):
+                text = re.sub(
+                    r"(?<![A-Za-z0-9_'\-.])" + re.escape(alias) + r"((?:\.\d+)+)",
+                    lambda q: ".".join([alias] + self.clause(step, q.group(1)[1:].split("."))),
+                    text,
+                )
+        return text
+
+    def clause(self, step, parts):
+        """A path of numbers into what a step ensures, with the clause's name in front where the callee has several."""
+        names = self.known.get(self.called.get(step), {}).get("ensures", [])
+        if len(names) < 2 or not all(names):
+            return parts
+        for k, name in enumerate(names):
+            way = ["1"] * k + (["0"] if k < len(names) - 1 else [])
+            if parts[: len(way)] == way:
+                return [name] + parts[len(way):]
+        return parts
 
 
 def main(names, crate, only):
     name = os.path.basename(crate.rstrip("/"))
     info = json.load(open(names))
+    known = clause_names(os.path.join(os.path.dirname(os.path.abspath(crate.rstrip("/"))), ".."))
     for folder, dirs, files in os.walk(os.path.join(crate, "proofs")):
         if "Proof.antt" not in files or "Answers.antt" in files or "Invariants.antt" in files:
             continue
@@ -153,7 +210,7 @@ def main(names, crate, only):
         if "tie.close" not in text:
             print("by hand:", folder)
             continue
-        convert(Function(info[key]), folder, name, rel, text)
+        convert(Function(info[key], "::".join([name] + rel), known), folder, name, rel, text)
 
 
 def use_helper(value, h, inlined):

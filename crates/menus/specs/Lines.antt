@@ -38,13 +38,13 @@ MissingOrEmpty text k = Missing text k ⊎ ((start : ℕ) × Line text k start [
 abbrev pub Full : List ℕ → ℕ → Type 0
 Full text k = (start : ℕ) × (line : List ℕ) × Line text k start line × (0 < length line)
 
--- a lent text or a part of one: where it lies, `ptr`, and its bytes, `now`
+-- a lent text or a part of one: where it lies, `ref_ptr`, and its bytes, `now`
 abbrev pub Text : Type 0
 Text = Bor (List ℕ)
 
 -- where the part of a text lies that starts at `start`
 abbrev pub from : Text → ℕ → ℕ × ℕ
-from text start = (text.ptr.0, text.ptr.1 + start)
+from text start = (text.ref_ptr.0, text.ref_ptr.1 + start)
 
 -- "Line k is handed back as a part of the translated text, or of the English text if the translated line is missing or empty. If English is
 -- turned to and has no line k, the part is the empty one at the English text's end."

@@ -3,7 +3,7 @@
 use Rattle.std.specs.Prelude.{ℕ, zero, suc, ◌≤◌, ◌<◌, ◌+◌, ◌-◌, min, ◌≡◌, refl, List, [], ◌∷◌, ◌↔◌, get_or, take, drop}
 use Rattle.std.proofs.Common.{sym, ◌∙◌, subst, inl, inr, arith, length-drop, drop_of_length-le, drop-drop}
 use Rattle.std.proofs.Math.Path.{ap}
-use Rattle.std.proofs.Math.Logic.{ite, if_pos, if_neg}
+use Rattle.std.proofs.Math.Logic.{if_pos, if_neg}
 use Rattle.std.proofs.Math.Decide.{dec_lt}
 use Rattle.std.proofs.Math.ListN.{length, get_or-eq_default}
 use Rattle.text_cut.proofs.CutLaws.{first-none, first_take, first_le, parts_last, parts_next, is_cut}

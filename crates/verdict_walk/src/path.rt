@@ -21,7 +21,7 @@ pub struct Portal {
 }
 
 // Where a walk ended: at a portal with its normal, by the last point that was looked at.
-#[derive(Drop)]
+#[derive(Clone, Copy)]
 pub struct Ended {
     pub met: bool,
     pub portal: Portal,

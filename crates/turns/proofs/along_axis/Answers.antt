@@ -1,5 +1,4 @@
 -- The coordinate is negated where the signed axis is less than 0.
-use borrow.Author.Rules.{rules}
 use mathlib.Core.Path.{◌≡◌, sym, ap, ◌∙◌, subst}
 use mathlib.Core.Bool.{Bool, true, false, cond}
 use lib.IntN.{ℤ, pos, neg_ℤ, ◌-ℤ◌, nat_abs, +ℤ_idl}

@@ -1,12 +1,8 @@
 -- Each test on the bits of the signed axis leaves one number.
 -- A test is passed by the axis or by its negation, which are the same axis without the sign.
-use Prim.Native.Nat.{ℕ}
-use mathlib.Core.Path.{◌≡◌, sym, ap, ◌∙◌}
+use mathlib.Core.Path.{◌≡◌, sym, ap}
 use mathlib.Core.Logic.{⊎_elim}
-use borrow.Author.Tests.{eqb-true, eqb-false}
 use lib.IntN.{nat_abs}
-use mir.Syntax.{w8}
-use mir.Val.{of_z}
 use Rattle.turns.specs.Turns.{axis_number}
 use Rattle.turns.proofs.Signs.{from_bits, neither}
 use Rattle.turns.proofs.axis_number.Goals as goal

@@ -3,10 +3,8 @@
 use Prim.Native.Nat.{ℕ}
 use mathlib.Core.Path.{◌≡◌, sym, ap, ◌∙◌}
 use mathlib.Core.Logic.{⊎_elim}
-use borrow.Author.Tests.{eqb-true, eqb-false}
 use lib.IntN.{nat_abs}
-use mir.Syntax.{w8, w32}
-use mir.Val.{of_z}
+use mir.Syntax.{w32}
 use mir.ValLaws.{to_z-of_z}
 use Rattle.turns.specs.Turns.{named_axis}
 use Rattle.turns.proofs.Signs.{from_bits, neither}

@@ -1,5 +1,4 @@
 -- The turned coordinate plus the offset, whose sum stays in range.
-use borrow.Author.Rules.{rules}
 use mathlib.Core.Path.{◌≡◌, ap, ◌∙◌}
 use lib.IntN.{ℤ, ◌+ℤ◌}
 use mir.Syntax.{w32}

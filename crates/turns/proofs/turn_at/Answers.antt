@@ -1,5 +1,4 @@
 -- The entry is the turn of the numbering rule, by the one test over the table.
-use borrow.Author.Rules.{rules}
 use Rattle.turns.proofs.Entries.{table_right}
 use Rattle.turns.proofs.turn_at.Goals as goal
 

@@ -1,11 +1,9 @@
 -- The coordinate along the signed axis that the turn puts there.
-use borrow.Author.Rules.{rules}
 use mathlib.Core.Path.{◌≡◌, ap, ◌∙◌}
 use lib.IntN.{ℤ}
 use mir.Syntax.{w8, w32}
 use mir.Val.{to_z, of_z}
 use mir.ValLaws.{to_z-of_z}
-use Rattle.limits.specs.Limits
 use Rattle.turns.specs.Turns.{along, turned_at}
 use Rattle.turns.specs.Range.{turned_within}
 use Rattle.turns.proofs.Signs.{read_back}

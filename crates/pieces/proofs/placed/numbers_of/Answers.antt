@@ -3,9 +3,8 @@ use mir.Syntax.{w32}
 use Rattle.ints.specs.Bounds.{worth, k_back, k_within}
 use lib.ListN.{length, take, drop, replicate, length-set, length-replicate}
 use lib.IntN.{pos}
-use borrow.Author.Rules.{rules}
 use mathlib.Core.Path.{◌≡◌, refl, ap, ◌∙◌, subst}
-use Prim.Native.Nat.{◌-◌, ◌*◌, ◌/◌, ◌%◌, ◌≤◌}
+use Prim.Native.Nat.{◌-◌, ◌*◌, ◌/◌, ◌%◌}
 use native.Mathlib.Omega.{arith}
 use Rattle.limits.specs.Limits
 use Rattle.pieces.specs.Pieces.{list_to}

@@ -1,15 +1,11 @@
 -- `pieces::placed::numbers_of_lem`: the first k numbers are those of the definition, and the others 0.
-use mir.Syntax.{w32}
-use Rattle.ints.specs.Bounds.{worth, k_back, k_within}
-use lib.ListN.{length, take, drop, replicate, length-set, length-replicate}
+use lib.ListN.{length, take, drop, replicate}
 use lib.IntN.{pos}
-use borrow.Author.Rules.{rules}
-use mathlib.Core.Path.{◌≡◌, refl, ap, ◌∙◌, subst}
+use mathlib.Core.Path.{◌≡◌}
 use Prim.Native.Nat.{◌-◌, ◌*◌, ◌/◌, ◌%◌, ◌≤◌}
-use native.Mathlib.Omega.{arith}
 use Rattle.limits.specs.Limits
 use Rattle.pieces.specs.Pieces.{list_to}
-use Rattle.pieces.specs.Placed.{number_at, stored_more, zeros_more}
+use Rattle.pieces.specs.Placed.{number_at}
 use Rattle.pieces.proofs.placed.numbers_of.Given as goal
 
 abbrev pub invariant-loop-k : goal.invariant-loop-k

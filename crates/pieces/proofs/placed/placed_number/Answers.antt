@@ -1,5 +1,4 @@
 -- `pieces::placed::placed_number`: three corner numbers and an offset, each near, turned and moved.
-use borrow.Author.Rules.{rules}
 use mathlib.Core.Path.{sym, ◌∙◌, subst}
 use Prim.Native.Nat.{◌+◌, ◌*◌}
 use native.Mathlib.Omega.{arith}

@@ -1,6 +1,5 @@
 -- `pieces::placed::pose_of`: the three numbers as they are read.
 -- Each cell that is read as an index is one, since shapes and places are in order.
-use borrow.Author.Rules.{rules}
 use mathlib.Core.Path.{◌≡◌, sym, ap, ◌∙◌, subst}
 use Prim.Native.Nat.{ℕ, ◌+◌, ◌-◌, ◌*◌, ◌≤◌}
 use native.Mathlib.Omega.{arith}

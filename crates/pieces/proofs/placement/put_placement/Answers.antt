@@ -8,7 +8,6 @@ use mir.ValLaws.{to_z-of_z}
 use Rattle.ints.specs.Bounds.{fits, worth, k_add, k_back, k_abs, k_lit_pos}
 use Rattle.limits.specs.Limits
 use Rattle.pieces.specs.Storing.{five_stored}
-use borrow.Author.Rules.{rules}
 use Rattle.pieces.proofs.placement.put_placement.Goals as goal
 
 pub overflow_add-held : goal.overflow_add-held

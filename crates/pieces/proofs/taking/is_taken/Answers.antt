@@ -1,6 +1,5 @@
 -- `pieces::taking::is_taken` meets its contract: a place is taken where its first cell is not 0.
 -- The test compares bits, and equal bits are equal numbers.
-use borrow.Author.Rules.{rules}
 use Rattle.pieces.specs.Taking.{taken_bits}
 use Rattle.pieces.proofs.taking.is_taken.Goals as goal
 

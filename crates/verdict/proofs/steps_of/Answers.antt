@@ -7,15 +7,11 @@ use lib.Signed.{non_neg}
 use mir.Syntax.{w32}
 use mir.Val.{Fits}
 use mir.Facts.{to_z-of_z}
-use Rattle.verdict.proofs.steps_of.Statement.{statement}
-use Rattle.verdict.proofs.steps_of.Tie as tie
+use Rattle.verdict.proofs.steps_of.Goals as goal
 
-cast-result : tie.Need-overflow-cast-result
-cast-result c =
+pub overflow_cast-result : goal.overflow_cast-result
+overflow_cast-result c =
     subst (λ (z : ℤ). T (non_neg z) × Fits w32 (nat_abs z)) (sym (to_z-of_z c.ranges.gap ∙ c.requires.natural)) (tt, record { fits = omega (arith, c.requires.below) })
 
-returns : tie.Need-returns
+pub returns : goal.returns
 returns c = ap nat_abs (to_z-of_z c.ranges.gap)
-
-pub steps-of-spec : {M : Type 1} → statement M
-steps-of-spec = tie.close (tie.spec cast-result returns)
