@@ -6,18 +6,17 @@ use native.Mathlib.Nat.{div-add-mod, mul-mod_right}
 use native.Mathlib.Omega.{arith}
 use Rattle.limits.specs.DecidesLaws.{fails}
 use Rattle.scans_stl.specs.Steps.{TriangleStarts}
-use Rattle.scans_stl.proofs.starts.Statement.{statement}
-use Rattle.scans_stl.proofs.starts.Tie as tie
+use Rattle.scans_stl.proofs.starts.Goals as goal
 
-returns : tie.Need-returns
-returns c = fails refl (λ (s : TriangleStarts _ _). omega (arith, s.place))
+pub returns-then-at-lt-FIRST : goal.returns-then-at-lt-FIRST
+returns-then-at-lt-FIRST c = fails refl (λ (s : TriangleStarts _ _). omega (arith, s.place))
 
-returns-2 : tie.Need-returns-2
-returns-2 c = fails refl (λ (s : TriangleStarts _ _). omega (arith, s.place, s.below))
+pub returns-then-file-at : goal.returns-then-file-at
+returns-then-file-at c = fails refl (λ (s : TriangleStarts _ _). omega (arith, s.place, s.below))
 
-returns-3 : tie.Need-returns-3
-returns-3 c =
-    let a = c.before.before.args.at in
+pub returns : goal.returns
+returns c =
+    let a = c.args.at in
     record {
       yes = λ e.
           let m : (a - 84) % 50 ≡ 0 = eqb-true _ _ e in
@@ -27,6 +26,3 @@ returns-3 c =
           let d : a - 84 ≡ 50 * s.nth = omega (arith, s.place) in
           eqb-false _ _ e (ap (λ k. k % 50) d ∙ mul-mod_right 50 s.nth);
     }
-
-pub starts-spec : {M : Type 1} → statement M
-starts-spec = tie.close (tie.spec returns returns-2 returns-3)
