@@ -59,7 +59,7 @@ module _ (places : List ℤ) (place turn : ℤ) (o : Offset) {a c u v w : ℤ} (
 
 -- ---- the placement that a move puts down
 pub moved_eq : {s s' t t' x x' y y' z z' : ℤ} → s ≡ s' → t ≡ t' → x ≡ x' → y ≡ y' → z ≡ z'
-    → _≡_ {A = Placement} (record { shape = s; turn = t; x = x; y = y; z = z }) (record { shape = s'; turn = t'; x = x'; y = y'; z = z' })
+    → ◌≡◌ {A = Placement} (record { shape = s; turn = t; x = x; y = y; z = z }) (record { shape = s'; turn = t'; x = x'; y = y'; z = z' })
 moved_eq es et ex ey ez = λ i. record { shape = es i; turn = et i; x = ex i; y = ey i; z = ez i }
 
 -- what a taken place holds, less one, is its shape
@@ -71,7 +71,7 @@ held_less {n} (pos (suc k)) h f =
   where
     less : k ≡ nat_abs (pos (suc k)) - 1
     less = omega arith
-held_less (negsuc k) h f = absurd (let e = h.natural in let z : _≡_ {A = ℕ} 0 1 = cc in omega arith)
+held_less (negsuc k) h f = absurd (let e = h.natural in let z : ◌≡◌ {A = ℕ} 0 1 = cc in omega arith)
 
 -- what was handed on is what was handed in
 pub may_be : {d : Desk} {p : ℕ} {q r : Placement} → q ≡ r → MayPut d p r → MayPut d p q
