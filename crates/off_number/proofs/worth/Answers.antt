@@ -2,12 +2,10 @@
 use Prim.Native.Nat.{ℕ, zero, suc, ◌≤◌, ◌-◌, ◌^◌}
 use mathlib.Core.List.{[], ◌∷◌}
 use mathlib.Core.Path.{◌≡◌, refl}
-use borrow.Author.Rules.{rules}
 use native.Mathlib.Omega.{arith}
 use lib.ListN.{get_or}
 use Rattle.limits.specs.Limits
-use Rattle.off_number.proofs.worth.Statement.{statement}
-use Rattle.off_number.proofs.worth.Tie as tie
+use Rattle.off_number.proofs.worth.Goals as goal
 
 worths : (k : ℕ) → 1 ≤ k → k ≤ Limits.off_digits → get_or (100000 ∷ 10000 ∷ 1000 ∷ 100 ∷ 10 ∷ 1 ∷ []) (k - 1) 0 ≡ 10 ^ (Limits.off_digits - k)
 worths zero l h = absurd (omega arith)
@@ -19,17 +17,5 @@ worths (suc (suc (suc (suc (suc zero))))) l h = refl
 worths (suc (suc (suc (suc (suc (suc zero)))))) l h = refl
 worths (suc (suc (suc (suc (suc (suc (suc k))))))) l h = absurd (omega arith)
 
-sub-result : tie.Need-overflow-sub-result
-sub-result c = search rules
-
-mul-result : tie.Need-overflow-mul-result
-mul-result c = search rules
-
-array-read-result : tie.Need-array-read-result
-array-read-result c = search rules
-
-returns : tie.Need-returns
+pub returns : goal.returns
 returns c = worths c.args.k c.requires.0 c.requires.1
-
-pub worth-spec : {M : Type 1} → statement M
-worth-spec = tie.close (tie.spec sub-result mul-result array-read-result returns)
