@@ -1,6 +1,6 @@
 -- Determinacy: any two answers that the contract of `corners` allows are equal, and so is the room that they leave.
 -- The sizes in steps are not in the answer, but a float is only one number of steps.
-use Rattle.std.specs.Prelude.{ℕ, ◌<◌, ◌≡◌, ◌⊎◌, List, ◌∷◌, ◌++◌, ℤ, length, drop}
+use Rattle.std.specs.Prelude.{ℕ, ◌<◌, ◌≡◌, List, ◌∷◌, ◌++◌, ℤ, length, drop}
 use Rattle.std.proofs.Common.{sym, ap, ◌∙◌, ⊎_elim}
 use Rattle.limits.specs.Limits
 use Rattle.limits.specs.Lowest.{◌when◌}

@@ -1,6 +1,6 @@
 -- Laws of the numbers of an OFF text: a text is a number in one way, with one value and one number of steps.
 -- So two answers that are allowed for one word are equal (`read_once_lem`).
-use Rattle.std.specs.Prelude.{ℕ, ◌≤◌, ◌*◌, ◌≡◌, refl, Bool, true, false, List, [], ◌∷◌, ◌++◌, ◌⊎◌, ℤ, length, get_or}
+use Rattle.std.specs.Prelude.{ℕ, ◌≤◌, ◌*◌, ◌≡◌, refl, Bool, true, false, List, [], ◌∷◌, ◌++◌, ℤ, length, get_or}
 use Rattle.std.proofs.Common.{sym, ap, ap₂, ◌∙◌, subst, ⊎_elim, arith}
 use Rattle.limits.proofs.LowestLaws.{lowest_once}
 use Rattle.scans.specs.Floats.{with_sign}

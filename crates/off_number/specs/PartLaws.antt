@@ -1,13 +1,13 @@
 -- What stands behind the point, for each of the 64 numbers of steps below a millimetre: one test, worked out over all of them.
 -- The rules that the test stands for are `PartIs`; `part_is_lem` has them of each number.
-use Rattle.std.specs.Prelude.{ℕ, zero, suc, ◌≤◌, ◌<◌, ◌+◌, ◌-◌, ◌*◌, ◌/◌, ◌%◌, ◌^◌, min, ◌≡◌, refl, Bool, true, false, ◌&&◌, ◌||◌, not, List, [], ◌∷◌, ◌⊎◌, T, eqb, leb, length, take, set}
+use Rattle.std.specs.Prelude.{ℕ, zero, suc, ◌≤◌, ◌<◌, ◌+◌, ◌-◌, ◌*◌, ◌%◌, ◌^◌, min, ◌≡◌, refl, Bool, true, false, ◌&&◌, ◌||◌, not, List, [], ◌∷◌, T, eqb, leb, length, take, set}
 use Rattle.std.proofs.Common.{sym, ap, ◌∙◌, subst, ⊎_elim, arith, leb→le, eqb→eq, T_not}
 use Rattle.std.proofs.Math.Dec.{eqb-suc-zero}
 use Rattle.std.specs.Float.Ieee.Fits.{and_l, and_r}
 use Rattle.io.specs.Digits.{last_digits}
 use Rattle.ints.specs.Order.{lt-or-ge}
 use Rattle.limits.specs.Limits
-use Rattle.text_digits.specs.Decimal.{Digit, Digits, number}
+use Rattle.text_digits.specs.Decimal.{Digits, number}
 use Rattle.off_number.specs.OffNumber.{millionth}
 use Rattle.off_number.specs.Shortest.{step_millionths, part_of, pointed}
 

@@ -1,6 +1,6 @@
 -- How a number of an OFF text is read: the digits at the start, what stands after them, and what stands after the point; the sign last.
 -- The helpers of src/lib.rt are held to these; ReadingLaws turns them into what OffNumber promises.
-use Rattle.std.specs.Prelude.{ℕ, ◌+◌, ◌*◌, ◌≤◌, ◌<◌, min, ◌≡◌, List, [], ◌∷◌, length, drop}
+use Rattle.std.specs.Prelude.{ℕ, ◌*◌, ◌≤◌, ◌<◌, min, ◌≡◌, List, [], ◌∷◌, length, drop}
 use Rattle.limits.specs.Limits
 use Rattle.limits.specs.Lowest.{Lowest, ◌when◌}
 use Rattle.text_digits.specs.Decimal.{Decimal, number, value_in, cut}

@@ -1,19 +1,18 @@
 -- What is read of a number from left to right is the answer that OffNumber asks for: each return of the helpers is one law.
 -- The definitions stand in Reading.
-use Rattle.std.specs.Prelude.{ℕ, ◌≤◌, ◌<◌, ◌+◌, ◌-◌, ◌*◌, ◌^◌, ◌≡◌, refl, Bool, true, false, List, [], ◌∷◌, ◌++◌, ◌⊎◌, pos, neg_ℤ, length, get_or, drop}
-use Rattle.std.proofs.Common.{sym, ap, ap₂, ◌∙◌, subst, inl, inr, ⊎_elim, add-one, mul-lt-mul_of_pos_right, arith, pow-add, drop-cons}
+use Rattle.std.specs.Prelude.{ℕ, ◌≤◌, ◌<◌, ◌+◌, ◌-◌, ◌*◌, ◌^◌, ◌≡◌, refl, Bool, true, false, List, [], ◌∷◌, ◌++◌, pos, neg_ℤ, length, get_or, drop}
+use Rattle.std.proofs.Common.{sym, ap, ap₂, ◌∙◌, subst, inl, inr, add-one, mul-lt-mul_of_pos_right, arith, pow-add, drop-cons}
 use Rattle.std.proofs.Math.Nat.{one-le-pow}
 use Rattle.std.proofs.Math.Seq.{drop-length}
 use Rattle.limits.specs.Limits
 use Rattle.limits.specs.Lowest.{Lowest, ◌when◌}
 use Rattle.scans.specs.Floats.{with_sign}
-use Rattle.text_digits.specs.Decimal.{Digits, number, Follows, Decimal, value_in}
+use Rattle.text_digits.specs.Decimal.{Digits, number, Follows, value_in}
 use Rattle.text_digits.specs.DecimalLaws.{leading, leading_digits, leading_split, leading_le, whole_leading, rest_follows, decimal_once, number_below}
-use Rattle.off_number.specs.OffNumber.{Point, signed, NumberAs, millionth, Millionths, Inexact, Beyond, NumberReadAs}
+use Rattle.off_number.specs.OffNumber.{Point, signed, millionth, Millionths, Inexact, Beyond, NumberReadAs}
 use Rattle.off_number.specs.OffNumberLaws.{apart, no_minus}
-use Rattle.off_number.specs.Reading.{Plain, InexactAt, BeyondAt, JudgedAs, no_number, PlainAs, bad, judged, Begun, BegunTo, Pointed}
+use Rattle.off_number.specs.Reading.{Plain, InexactAt, BeyondAt, no_number, PlainAs, bad, judged, BegunTo, Pointed}
 use Rattle.off_number.specs.declared.Counted.{Counted}
-use Rattle.off_number.specs.declared.NumberRead.{NumberRead}
 
 pub plain_once : {text : List ℕ} {m n : ℕ} → Plain text m → Plain text n → m ≡ n
 plain_once a b =

@@ -1,7 +1,7 @@
 -- Laws of the shortest decimal: it is exact (`decimal_steps`: reading it gives the steps back), no text of the form with its value is shorter (`shortest`),
 -- and it has at most twelve bytes where a corner has it.
-use Rattle.std.specs.Prelude.{ℕ, suc, ◌≤◌, ◌<◌, ◌+◌, ◌-◌, ◌*◌, ◌/◌, ◌%◌, ◌^◌, ◌≡◌, refl, Bool, true, false, List, [], ◌∷◌, ◌++◌, ℤ, pos, negsuc, nat_abs, length}
-use Rattle.std.proofs.Common.{sym, ap, ap₂, ◌∙◌, subst, ⊎_elim, mul_assoc, arith, length-append, pow-add}
+use Rattle.std.specs.Prelude.{ℕ, suc, ◌≤◌, ◌<◌, ◌+◌, ◌-◌, ◌*◌, ◌/◌, ◌%◌, ◌^◌, ◌≡◌, refl, Bool, true, false, List, [], ◌∷◌, ℤ, pos, negsuc, nat_abs, length}
+use Rattle.std.proofs.Common.{sym, ap, ◌∙◌, subst, ⊎_elim, mul_assoc, arith, length-append, pow-add}
 use Rattle.std.proofs.Math.Nat.{mul-mod_left}
 use Rattle.ints.specs.Bounds.{nat_abs_neg}
 use Rattle.ints.specs.Order.{lt-or-ge}

@@ -1,7 +1,7 @@
 -- "the shortest exact decimal" is one text: any text of the form that has the steps, and is no longer than `decimal_of`, is `decimal_of`.
 -- So the definition says no more than the request's words do.
-use Rattle.std.specs.Prelude.{ℕ, zero, suc, ◌≤◌, ◌<◌, ◌+◌, ◌-◌, ◌*◌, ◌/◌, ◌%◌, ◌^◌, ◌≡◌, refl, Bool, true, false, List, [], ◌∷◌, ◌++◌, ℤ, pos, negsuc, length}
-use Rattle.std.proofs.Common.{sym, ap, ap₂, ◌∙◌, subst, ⊎_elim, mul-le-mul_right, add-mul, arith, length-append}
+use Rattle.std.specs.Prelude.{ℕ, zero, suc, ◌≤◌, ◌<◌, ◌+◌, ◌-◌, ◌*◌, ◌/◌, ◌%◌, ◌^◌, ◌≡◌, refl, Bool, true, false, List, [], ◌∷◌, ◌++◌, ℤ, length}
+use Rattle.std.proofs.Common.{sym, ap, ap₂, ◌∙◌, ⊎_elim, mul-le-mul_right, add-mul, arith, length-append}
 use Rattle.std.proofs.Math.Nat.{eq_of_mul-eq-mul_right, one-le-pow}
 use Rattle.ints.specs.Order.{lt-or-ge}
 use Rattle.limits.specs.Limits
@@ -13,7 +13,7 @@ use Rattle.text_put.specs.PrintLaws.{digits_written, written_number}
 use Rattle.off_number.specs.OffNumber.{Point, signed, Exact, InSteps}
 use Rattle.off_number.specs.Reading.{Plain}
 use Rattle.off_number.specs.ReadingLaws.{without_sign}
-use Rattle.off_number.specs.Shortest.{step_millionths, part_of, pointed, plain_of, decimal_of}
+use Rattle.off_number.specs.Shortest.{part_of, pointed, plain_of, decimal_of}
 use Rattle.off_number.specs.PartLaws.{part_is_lem}
 use Rattle.off_number.specs.ShortestLaws.{plain_of_lem, plain_shortest}
 

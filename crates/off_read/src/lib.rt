@@ -49,13 +49,13 @@ fn is_off(word: &[u8]) -> bool
     if word.len() != 3 {
         return false;
     }
-    if word[0] != b'_o' {
+    if word[0] != b'O' {
         return false;
     }
-    if word[1] != b'_f' {
+    if word[1] != b'F' {
         return false;
     }
-    word[2] == b'_f'
+    word[2] == b'F'
 }
 
 fn no_head() -> Head

@@ -1,6 +1,6 @@
 -- Laws of what is written: P is written as the request says, a line more, and how long lines may be.
 -- The definitions stand in Written.
-use Rattle.std.specs.Prelude.{ℕ, zero, suc, ◌≤◌, ◌<◌, ◌+◌, ◌*◌, ◌/◌, ◌≡◌, refl, List, [], ◌∷◌, ◌++◌, ℤ, pos, length, get_or, take}
+use Rattle.std.specs.Prelude.{ℕ, zero, suc, ◌≤◌, ◌+◌, ◌*◌, ◌/◌, ◌≡◌, refl, List, [], ◌∷◌, ◌++◌, ℤ, pos, length, get_or, take}
 use Rattle.std.proofs.Common.{sym, ap, ◌∙◌, subst, append-nil, append_assoc, arith, length-append, to_z, of_z}
 use Rattle.std.specs.Int.{w32}
 use Rattle.ints.specs.Bounds.{Within, k_within, k_back, worth}
