@@ -2,7 +2,6 @@
 -- With no box apart it is the verdict of the two pieces, the lower place named first and widened by the gap.
 use Rattle.std.specs.Prelude.{◌≡◌, refl, ◌⊎◌, ℕ, ◌+◌, ◌*◌, ◌<◌, List, ℤ, pos, ◌+ℤ◌, ◌<ℤ◌, length, take}
 use Rattle.std.proofs.Common.{sym, ap, ◌∙◌, subst, inl, inr, arith}
-use Rattle.limits.specs.Limits
 use Rattle.space.specs.Verdicts.{VerdictIs}
 use Rattle.space.proofs.ExclusionLaws.{verdict_once}
 use Rattle.space.specs.Lists.{Placed}

@@ -1,6 +1,6 @@
 -- The answer of a whole file, drawn part by part: refused by 21 or 22, by one of its floats, or as what is kept is written or refused.
 -- And that any two answers are equal, the room that they leave with them.
-use Rattle.std.specs.Prelude.{ℕ, ◌≡◌, refl, List, ◌++◌, ◌⊎◌, ℤ}
+use Rattle.std.specs.Prelude.{ℕ, ◌≡◌, refl, List, ◌++◌, ℤ}
 use Rattle.std.proofs.Common.{sym, ◌∙◌, ⊎_elim, arith}
 use Rattle.limits.specs.Limits
 use Rattle.limits.specs.Lowest.{Lowest}

@@ -13,7 +13,7 @@ use Rattle.rows_tally.proofs.book_in_order.Goals as goal
 pub returns-then-gap : goal.returns-then-gap
 returns-then-gap c =
     let e = c.gap_of-gap.ensures in
-    fails refl (λ b. let g = b.gap in let k = c.if-gap.true in omega arith)
+    fails refl (λ b. let g = b.gap in omega arith)
 
 pub recount-requires : goal.recount-requires
 recount-requires c = c.pairs_of.ensures ∙ sym (counts_add_up c.requires)
@@ -24,7 +24,7 @@ returns c =
     let g = c.gap_of-gap.ensures in
     let rows = c.args.rows.now in
     let none = c.recount.ensures in
-    let right = subst (λ (b : List ℕ). BookInOrder rows b) (sym c.put_gap.ensures) (gap_order (omega (arith, c.if-gap.false)) none) in
+    let right = subst (λ (b : List ℕ). BookInOrder rows b) (sym c.put_gap.ensures) (gap_order (omega arith) none) in
     let same = sym g ∙ sym (gap_is none) ∙ ap gap_in (sym c.put_gap.ensures) in
     record {
       yes = λ t. subst (λ (b : List ℕ). BookInOrder rows b) (sym (d.yes t)) right;
