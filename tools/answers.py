@@ -159,6 +159,8 @@ class Function:
                 parts[0] = self.steps[norm(parts[0])]
             if len(parts) > 1:
                 parts[1] = self.fields.get(parts[0], {}).get(parts[1], parts[1])
+            if parts[0] == "fits":
+                parts[0] = "ranges"
             if parts[0] == "pre":
                 parts[0] = "requires"
             if len(parts) > 2 and parts[1] == "ensures" and parts[2].isdigit():
@@ -261,6 +263,14 @@ def convert(f, folder, crate, rel, text):
     here = f"Rattle.{crate}.proofs." + ".".join(rel)
     head, uses, other, invariants, answers = [], [], [], [], []
     order = []
+    # a helper that only goes back along the path is the path's beginning
+    for m in list(re.finditer(r"^(?:abbrev )?(" + W + r") : (?:\(" + W + r" : )?tie\.[^\n]*→ tie\.[^\n]*\n\1 (" + W + r") = \2(?:\.before)+\n", text, re.M)):
+        text = text.replace(m.group(0), "")
+        name = re.escape(m.group(1))
+        text = re.sub(r"\(" + name + r" (" + W + r")(?:\.before)*\)", lambda q: "«back»" + q.group(1), text)
+        text = re.sub(r"(?<![A-Za-z0-9_'\-.])" + name + r" (" + W + r")(?:\.before)*(?![A-Za-z0-9_'\-.])", lambda q: "«back»" + q.group(1), text)
+        text = re.sub(r"= «back»(" + W + r") in", lambda q: "= " + q.group(1) + ".before in", text)
+        text = re.sub(r"«back»(" + W + r")", lambda q: q.group(1), text)
     for k, b in enumerate(blocks(text)):
         body = strip_comments(b)
         if k == 0 and comments(b):
