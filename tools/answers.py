@@ -352,7 +352,7 @@ def convert(f, folder, crate, rel, text):
                 short = norm(need[len(pre):]) if need.startswith(pre) else None
                 if short and short in f.goal:
                     break
-            goal = f.goal.get(short) or f.goal.get(norm(need)) or f.goal.get(norm(need).replace("-lem-", "-"))
+            goal = f.goal.get(short) or f.goal.get(norm(need)) or f.goal.get(norm(need).replace("-lem-", "-")) or f.goal.get(norm(need).replace("slice-bounds-", "part-"))
             term = body[m.end():]
             term = re.sub(r"^(unfolding[^\n]*\n)?" + re.escape(m.group(1)) + r"((?: \S+)*?) =", lambda q: (q.group(1) or "") + "@ " + q.group(2).strip() + " =", term)
             q = re.match(r"(unfolding[^\n]*\n)?@ (.*?) =(.*)$", term, re.S)

@@ -16,15 +16,12 @@ use Rattle.desk_write.specs.Writing.{numbers_of_shape}
 use Rattle.desk_write.specs.WritingLaws.{put_short, put_whole, few_corners, numbers_are, numbers_fit, numbers_near}
 use Rattle.desk_write.proofs.write_shape.Goals as goal
 
--- where the numbers of the shape start, and their text
-abbrev first : goal.Start → ℕ
-first s = s.args.s * Limits.shape_cells + 1
+-- the text of a shape
+abbrev text : List ℤ → ℕ → List ℕ
+text shapes s = off_text (numbers_of_shape (store_of shapes []) s)
 
-abbrev text : goal.Start → List ℕ
-text s = off_text (numbers_of_shape (store_of s.args.shapes.now []) s.args.s)
-
-pub NO-GOAL-slice-bounds-write-corners-end : goal.NO-GOAL-slice-bounds-write-corners-end
-NO-GOAL-slice-bounds-write-corners-end c =
+pub slice_bounds-write_corners-end : goal.slice_bounds-write_corners-end
+slice_bounds-write_corners-end c =
     let within : c.args.s * Limits.shape_cells + 1 + 3 * c.index_of-corners.result ≤ length c.args.shapes.now =
     let corners_is : c.index_of-corners.result ≡ corners_of (store_of c.args.shapes.now []) c.args.s =
     cell-index (record { sfits = c.index_of-arg-1.given }) c.index_of-corners.ensures (c.requires.0.few c.args.s c.requires.1.shape) in
@@ -33,7 +30,7 @@ NO-GOAL-slice-bounds-write-corners-end c =
 
 pub write_corners-count-requires : goal.write_corners-count-requires
 write_corners-count-requires c =
-    let numbers-is : take (first c + 3 * c.index_of-corners.result - first c) (drop (first c) c.args.shapes.now)
+    let numbers-is : take (c.args.s * Limits.shape_cells + 1 + 3 * c.index_of-corners.result - (c.args.s * Limits.shape_cells + 1)) (drop (c.args.s * Limits.shape_cells + 1) c.args.shapes.now)
     ≡ numbers_of_shape (store_of c.args.shapes.now []) c.args.s =
     let within : c.args.s * Limits.shape_cells + 1 + 3 * c.index_of-corners.result ≤ length c.args.shapes.now =
     let corners_is : c.index_of-corners.result ≡ corners_of (store_of c.args.shapes.now []) c.args.s =
@@ -49,8 +46,8 @@ write_corners-count-requires c =
 
 pub returns-then-count-eq0 : goal.returns-then-count-eq0
 returns-then-count-eq0 c =
-    let was_put : Put c.args.room.now 0 (text c) c.write_corners-count.new.1.0 c.write_corners-count.result =
-    let numbers-is : take (first c + 3 * c.index_of-corners.result - first c) (drop (first c) c.args.shapes.now)
+    let was_put : Put c.args.room.now 0 (text c.args.shapes.now c.args.s) c.write_corners-count.new.room c.write_corners-count.result =
+    let numbers-is : take (c.args.s * Limits.shape_cells + 1 + 3 * c.index_of-corners.result - (c.args.s * Limits.shape_cells + 1)) (drop (c.args.s * Limits.shape_cells + 1) c.args.shapes.now)
     ≡ numbers_of_shape (store_of c.args.shapes.now []) c.args.s =
     let within : c.args.s * Limits.shape_cells + 1 + 3 * c.index_of-corners.result ≤ length c.args.shapes.now =
     let corners_is : c.index_of-corners.result ≡ corners_of (store_of c.args.shapes.now []) c.args.s =
@@ -62,13 +59,13 @@ returns-then-count-eq0 c =
     let at = c.args.s * Limits.shape_cells + 1 in
     let n : at + 3 * c.index_of-corners.result - at ≡ 3 * corners_of d c.args.s = omega (arith, corners_is) in
     ap (λ (k : ℕ). take k (drop at c.args.shapes.now)) n ∙ numbers_are d c.args.s (omega (arith, within, corners_is)) in
-    subst (λ (l : List ℤ). Put c.args.room.now 0 (off_text l) c.write_corners-count.new.1.0 c.write_corners-count.result) (numbers-is) c.write_corners-count.ensures in
+    subst (λ (l : List ℤ). Put c.args.room.now 0 (off_text l) c.write_corners-count.new.room c.write_corners-count.result) (numbers-is) c.write_corners-count.ensures in
     put_short (omega arith) (was_put) c.if-count-eq0.true
 
 pub returns : goal.returns
 returns c =
-    let was_put : Put c.args.room.now 0 (text c) c.write_corners-count.new.1.0 c.write_corners-count.result =
-    let numbers-is : take (first c + 3 * c.index_of-corners.result - first c) (drop (first c) c.args.shapes.now)
+    let was_put : Put c.args.room.now 0 (text c.args.shapes.now c.args.s) c.write_corners-count.new.room c.write_corners-count.result =
+    let numbers-is : take (c.args.s * Limits.shape_cells + 1 + 3 * c.index_of-corners.result - (c.args.s * Limits.shape_cells + 1)) (drop (c.args.s * Limits.shape_cells + 1) c.args.shapes.now)
     ≡ numbers_of_shape (store_of c.args.shapes.now []) c.args.s =
     let within : c.args.s * Limits.shape_cells + 1 + 3 * c.index_of-corners.result ≤ length c.args.shapes.now =
     let corners_is : c.index_of-corners.result ≡ corners_of (store_of c.args.shapes.now []) c.args.s =
@@ -80,5 +77,5 @@ returns c =
     let at = c.args.s * Limits.shape_cells + 1 in
     let n : at + 3 * c.index_of-corners.result - at ≡ 3 * corners_of d c.args.s = omega (arith, corners_is) in
     ap (λ (k : ℕ). take k (drop at c.args.shapes.now)) n ∙ numbers_are d c.args.s (omega (arith, within, corners_is)) in
-    subst (λ (l : List ℤ). Put c.args.room.now 0 (off_text l) c.write_corners-count.new.1.0 c.write_corners-count.result) (numbers-is) c.write_corners-count.ensures in
+    subst (λ (l : List ℤ). Put c.args.room.now 0 (off_text l) c.write_corners-count.new.room c.write_corners-count.result) (numbers-is) c.write_corners-count.ensures in
     put_whole (omega arith) (was_put) c.if-count-eq0.false
