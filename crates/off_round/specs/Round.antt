@@ -13,9 +13,9 @@ use Rattle.text_put.specs.PrintLaws.{digits_written, written_number, digits_some
 use Rattle.off_number.specs.OffNumber.{IsNumber, Inexact, Beyond, InSteps}
 use Rattle.off_number.specs.OffNumberLaws.{millionths_once, steps_once}
 use Rattle.off_number.specs.Shortest.{decimal_of}
-use Rattle.off_number.specs.ShortestLaws.{decimal_steps, steps_size}
+use Rattle.off_number.proofs.ShortestLaws.{decimal_steps, steps_size}
 use Rattle.off_text.specs.Off.{off, words_in, word_at, IsCount, IsOff, Faces, corner_count, face_count, after_counts}
-use Rattle.off_text.specs.TextLaws.{comma_free}
+use Rattle.off_text.proofs.TextLaws.{comma_free}
 use Rattle.off_read.specs.Corners.{corner_numbers, off_refusals, OffReadAs}
 use Rattle.off_read.specs.declared.OffRead.{OffRead}
 use Rattle.off_write.specs.Written.{off_text}
