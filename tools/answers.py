@@ -75,8 +75,39 @@ def comments(b):
     return "\n".join(l for l in b.split("\n") if l.startswith("--"))
 
 
+def clause_names(top):
+    """Of each function of the repository, crate::module::name, the names of its requires and of its ensures."""
+    out = {}
+    for folder, _, files in os.walk(os.path.join(top, "crates")):
+        if os.path.basename(folder) != "src":
+            continue
+        crate = os.path.basename(os.path.dirname(folder))
+        for f in files:
+            if not f.endswith(".rt"):
+                continue
+            module = [] if f in ("lib.rt", "main.rt") else [f[:-3]]
+            name, got = None, None
+            for l in open(os.path.join(folder, f), encoding="utf-8"):
+                m = re.match(r"\s*(?:pub )?(?:extern \"C\" )?(?:const )?fn (\w+)", l)
+                if m:
+                    name = m.group(1)
+                    got = {"requires": [], "ensures": []}
+                    out["::".join([crate] + module + [name])] = got
+                m = re.match(r"\s+(requires|ensures)(?: (\w+))? \{", l)
+                if m and got is not None:
+                    got[m.group(1)].append(m.group(2))
+                if l.startswith("{"):
+                    got = None
+    return out
+
+
 class Function:
-    def __init__(self, info):
+    def __init__(self, info, own, known):
+        self.own, self.known = known.get(own, {}), known
+        self.called = {}
+        for p in info["places"]:
+            if p[3] and p[2][1]:
+                self.called[p[2][1]] = p[3]
         self.goal = {}
         self.steps = {}
         self.fields = {}
@@ -120,19 +151,53 @@ class Function:
             parts = parts[k:]
             if not parts:
                 return root
+            if norm(parts[0]) not in self.steps and norm(parts[0]).endswith("-lem") and norm(parts[0])[:-4] in self.steps:
+                parts[0] = norm(parts[0])[:-4]
+            if norm(parts[0]) not in self.steps and norm(parts[0]).lower() in self.steps:
+                parts[0] = norm(parts[0]).lower()
             if norm(parts[0]) in self.steps:
                 parts[0] = self.steps[norm(parts[0])]
             if len(parts) > 1:
                 parts[1] = self.fields.get(parts[0], {}).get(parts[1], parts[1])
+            if parts[0] == "fits":
+                parts[0] = "ranges"
+            if parts[0] == "pre":
+                parts[0] = "requires"
+            if len(parts) > 2 and parts[1] == "ensures" and parts[2].isdigit():
+                parts = parts[:2] + self.clause(parts[0], parts[2:])
+            own = self.own.get("requires", [])
+            if len(parts) > 1 and parts[0] == "requires" and parts[1].isdigit() and len(own) > 1 and int(parts[1]) < len(own) and own[int(parts[1])]:
+                parts[1] = own[int(parts[1])]
             parts = [{"well-formed": "well_formed", "type-inv": "type_inv"}.get(x, x) for x in parts]
             return ".".join([root] + parts)
 
-        return PATH.sub(turn, text)
+        text = PATH.sub(turn, text)
+        for m in list(re.finditer(r"let (" + W + r") = c\.(" + W + r")\.ensures in", text)):
+            alias, step = m.group(1), m.group(2)
+            if self.called.get(step):
+                text = re.sub(
+                    r"(?<![A-Za-z0-9_'\-.])" + re.escape(alias) + r"((?:\.\d+)+)",
+                    lambda q: ".".join([alias] + self.clause(step, q.group(1)[1:].split("."))),
+                    text,
+                )
+        return text
+
+    def clause(self, step, parts):
+        """A path of numbers into what a step ensures, with the clause's name in front where the callee has several."""
+        names = self.known.get(self.called.get(step), {}).get("ensures", [])
+        if len(names) < 2 or not all(names):
+            return parts
+        for k, name in enumerate(names):
+            way = ["1"] * k + (["0"] if k < len(names) - 1 else [])
+            if parts[: len(way)] == way:
+                return [name] + parts[len(way):]
+        return parts
 
 
 def main(names, crate, only):
     name = os.path.basename(crate.rstrip("/"))
     info = json.load(open(names))
+    known = clause_names(os.path.join(os.path.dirname(os.path.abspath(crate.rstrip("/"))), ".."))
     for folder, dirs, files in os.walk(os.path.join(crate, "proofs")):
         if "Proof.antt" not in files or "Answers.antt" in files or "Invariants.antt" in files:
             continue
@@ -147,7 +212,7 @@ def main(names, crate, only):
         if "tie.close" not in text:
             print("by hand:", folder)
             continue
-        convert(Function(info[key]), folder, name, rel, text)
+        convert(Function(info[key], "::".join([name] + rel), known), folder, name, rel, text)
 
 
 def use_helper(value, h, inlined):
@@ -158,10 +223,54 @@ def use_helper(value, h, inlined):
     return "\n    " + inlined[h] + "\n    " + re.sub(pattern, h, value).lstrip("\n ")
 
 
+def tuple_parts(value):
+    """What stands before a value's last tuple, and that tuple's parts; None where it does not end in one."""
+    s = value.rstrip()
+    if not s.endswith(")"):
+        return None
+    depth, i = 0, len(s) - 1
+    while i >= 0:
+        if s[i] in ")]}":
+            depth += 1
+        elif s[i] in "([{":
+            depth -= 1
+            if depth == 0:
+                break
+        i -= 1
+    head = s[:i]
+    if head.strip() and not re.search(r"\bin\s*$", head):
+        return None
+    parts, depth, start = [], 0, i + 1
+    for k in range(i + 1, len(s) - 1):
+        if s[k] in "([{":
+            depth += 1
+        elif s[k] in ")]}":
+            depth -= 1
+        elif s[k] == "," and depth == 0:
+            parts.append(s[start:k].strip())
+            start = k + 1
+    last = s[start:-1].strip()
+    if last:
+        inner = tuple_parts(last) if last.startswith("(") and last.endswith(")") else None
+        if inner and not inner[0].strip() and len(inner[1]) > 1:
+            parts.extend(inner[1])
+        else:
+            parts.append(last)
+    return head + " ", parts
+
+
 def convert(f, folder, crate, rel, text):
     here = f"Rattle.{crate}.proofs." + ".".join(rel)
     head, uses, other, invariants, answers = [], [], [], [], []
     order = []
+    # a helper that only goes back along the path is the path's beginning
+    for m in list(re.finditer(r"^(?:abbrev )?(" + W + r") : (?:\(" + W + r" : )?tie\.[^\n]*→ tie\.[^\n]*\n\1 (" + W + r") = \2(?:\.before)+\n", text, re.M)):
+        text = text.replace(m.group(0), "")
+        name = re.escape(m.group(1))
+        text = re.sub(r"\(" + name + r" (" + W + r")(?:\.before)*\)", lambda q: "«back»" + q.group(1), text)
+        text = re.sub(r"(?<![A-Za-z0-9_'\-.])" + name + r" (" + W + r")(?:\.before)*(?![A-Za-z0-9_'\-.])", lambda q: "«back»" + q.group(1), text)
+        text = re.sub(r"= «back»(" + W + r") in", lambda q: "= " + q.group(1) + ".before in", text)
+        text = re.sub(r"«back»(" + W + r")", lambda q: q.group(1), text)
     for k, b in enumerate(blocks(text)):
         body = strip_comments(b)
         if k == 0 and comments(b):
@@ -243,7 +352,7 @@ def convert(f, folder, crate, rel, text):
                 short = norm(need[len(pre):]) if need.startswith(pre) else None
                 if short and short in f.goal:
                     break
-            goal = f.goal.get(short) or f.goal.get(norm(need))
+            goal = f.goal.get(short) or f.goal.get(norm(need)) or f.goal.get(norm(need).replace("-lem-", "-"))
             term = body[m.end():]
             term = re.sub(r"^(unfolding[^\n]*\n)?" + re.escape(m.group(1)) + r"((?: \S+)*?) =", lambda q: (q.group(1) or "") + "@ " + q.group(2).strip() + " =", term)
             q = re.match(r"(unfolding[^\n]*\n)?@ (.*?) =(.*)$", term, re.S)
@@ -269,8 +378,9 @@ def convert(f, folder, crate, rel, text):
             names = [goal]
             if clauses and len(clauses) > 1 and not value.strip().startswith("record"):
                 names = [f"{goal}-clause-{x}" for x in clauses]
+            parts = tuple_parts(value) if len(names) > 1 else None
             for i, nm in enumerate(names):
-                v = value
+                v = parts[0] + parts[1][i] if parts and len(parts[1]) == len(names) else value
                 for h in reversed(list(inlined)):
                     v = use_helper(v, h, inlined)
                 ans_lines.append((c + "\n" if c and i == 0 else "") + f"pub {nm} : goal.{nm}\n{unf}{nm} {' '.join(args)} ={v}")

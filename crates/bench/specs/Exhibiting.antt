@@ -12,7 +12,7 @@ use Rattle.pieces.specs.Pieces.{Store, Sized, Loaded, Taken, held_in, least_to, 
 use Rattle.rows.specs.Rows.{cell, row_at, Handled}
 use Rattle.ints.specs.Cases.{by-same}
 use Rattle.rows.specs.Changes.{put}
-use Rattle.rows.specs.Handling.{handled_none}
+use Rattle.rows.proofs.Handling.{handled_none}
 use Rattle.rows_tally.specs.Counting.{filled_at}
 use Rattle.rows_right.specs.Right.{RowRight}
 use Rattle.rows_right.specs.RowLaws.{one_below}

@@ -7,7 +7,7 @@ use Rattle.limits.specs.Limits
 use Rattle.rows.specs.Rows.{PairOf, cell, row_at}
 use Rattle.rows_list.specs.Contacts.{listed, contacts_from, contacts}
 use Rattle.rows.specs.Changes.{rows_once, row_same, row_other}
-use Rattle.rows.specs.Handling.{by_pair}
+use Rattle.rows.proofs.Handling.{by_pair}
 use Rattle.pieces.specs.Pieces.{Store, Taken, least_to, greatest_to}
 use Rattle.rows_right.specs.Right.{RowRight}
 use Rattle.rows_right.specs.RowLaws.{right_once}

@@ -21,7 +21,7 @@ use verdict::pair_of_lists;
 
 // The answer to a command: a refusal's number, or 0 and the count.
 #[repr(C)]
-#[derive(Drop)]
+#[derive(Clone, Copy)]
 pub struct Reply {
     pub number: u8,
     pub count: u32,
@@ -29,7 +29,7 @@ pub struct Reply {
 
 // The answer to the pair question: a refusal's number, or 0 and the verdict.
 #[repr(C)]
-#[derive(Drop)]
+#[derive(Clone, Copy)]
 pub struct VerdictReply {
     pub number: u8,
     pub verdict: u8,

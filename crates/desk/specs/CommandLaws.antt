@@ -11,7 +11,7 @@ use Rattle.rows_list.specs.Contacts.{Lists}
 use Rattle.rows_tally.specs.Tallies.{BookInOrder}
 use Rattle.rows_tally.specs.Counting.{filled_at, zero_at, book_once, book_started, gap_order, gap_is}
 use Rattle.rows.specs.Changes.{cleared_once}
-use Rattle.rows.specs.Handling.{rows_started, handled_once}
+use Rattle.rows.proofs.Handling.{rows_started, handled_once}
 use Rattle.rows_list.specs.declared.Listed.{Listed}
 use Rattle.rows_list.specs.declared.Listed.TheVariants.{Rows, Refused}
 use Rattle.marks.specs.Marks.{InPlaceMarks, changed_marks}

@@ -8,14 +8,14 @@ pub mod start;
 use pieces::placement::{Offset, Placement};
 
 // The answer to a command: its count, which is 0 but for a move, or a refusal's number.
-#[derive(Drop)]
+#[derive(Clone, Copy)]
 pub enum Outcome {
     Done(u32),
     Refused(u8),
 }
 
 // What the desk can be told, with the numbers as they arrive; a load's corner numbers come beside it.
-#[derive(Drop)]
+#[derive(Clone, Copy)]
 pub enum Command {
     Start,
     Load(i32),

@@ -1,8 +1,8 @@
 -- A move, from its tests to its record: what each part of the tests has asked, how the parts make the command's own list, and the true count.
 -- A callee sees a signed number through its bits; each law is told that what was handed on is what was handed in.
-use Rattle.std.specs.Prelude.{◌≡◌, refl, List, ◌++◌, ℕ, zero, suc, ◌+◌, ◌-◌, ◌<◌, ℤ, pos, negsuc, nat_abs, ◌-ℤ◌}
+use Rattle.std.specs.Prelude.{◌≡◌, refl, List, ◌++◌, ℕ, zero, suc, ◌+◌, ◌-◌, ◌<◌, ℤ, pos, negsuc, nat_abs}
 use Rattle.std.proofs.Common.{sym, ap, ◌∙◌, subst, inr, arith}
-use Rattle.std.proofs.Math.IntN.{-ℤ_one}
+use Rattle.std.proofs.Math.IntN.{◌-ℤ◌, -ℤ_one}
 use Rattle.limits.specs.Limits
 use Rattle.limits.specs.Lowest.{Lowest}
 use Rattle.limits.proofs.LowestLaws.{positive, lowest_first, lowest_then}
@@ -59,7 +59,7 @@ module _ (places : List ℤ) (place turn : ℤ) (o : Offset) {a c u v w : ℤ} (
 
 -- ---- the placement that a move puts down
 pub moved_eq : {s s' t t' x x' y y' z z' : ℤ} → s ≡ s' → t ≡ t' → x ≡ x' → y ≡ y' → z ≡ z'
-    → _≡_ {A = Placement} (record { shape = s; turn = t; x = x; y = y; z = z }) (record { shape = s'; turn = t'; x = x'; y = y'; z = z' })
+    → ◌≡◌ {A = Placement} (record { shape = s; turn = t; x = x; y = y; z = z }) (record { shape = s'; turn = t'; x = x'; y = y'; z = z' })
 moved_eq es et ex ey ez = λ i. record { shape = es i; turn = et i; x = ex i; y = ey i; z = ez i }
 
 -- what a taken place holds, less one, is its shape
@@ -71,7 +71,7 @@ held_less {n} (pos (suc k)) h f =
   where
     less : k ≡ nat_abs (pos (suc k)) - 1
     less = omega arith
-held_less (negsuc k) h f = absurd (let e = h.natural in let z : _≡_ {A = ℕ} 0 1 = cc in omega arith)
+held_less (negsuc k) h f = absurd (let e = h.natural in let z : ◌≡◌ {A = ℕ} 0 1 = cc in omega arith)
 
 -- what was handed on is what was handed in
 pub may_be : {d : Desk} {p : ℕ} {q r : Placement} → q ≡ r → MayPut d p r → MayPut d p q

@@ -5,14 +5,14 @@ use Rattle.std.proofs.Common.{sym, subst}
 use Rattle.limits.specs.Limits
 use Rattle.rows.specs.Rows.{Handled, Cleared}
 use Rattle.rows_tally.specs.Tallies.{BookFollows}
-use Rattle.rows.specs.Handling.{rows_after_clearing, rows_after_handling}
+use Rattle.rows.proofs.Handling.{rows_after_clearing, rows_after_handling}
 use Rattle.marks.specs.Marks.{OthersStayMarks, InPlaceMarks}
 use Rattle.marks.specs.Keys.{KeyedMarks}
 use Rattle.pieces.specs.Boxes.{PlacedPiece}
 use Rattle.pieces.specs.declared.placement.Placement.{Placement}
 use Rattle.pieces.specs.Pieces.{Store, store_of, Sized, Taken, OthersStay, PiecesInOrder, axes_of, put_in, emptied_in}
 use Rattle.pieces_box.specs.ShapeBox.{AllAsked}
-use Rattle.pieces_box.specs.KeysLaws.{all_asked}
+use Rattle.pieces_box.proofs.KeysLaws.{all_asked}
 use Rattle.desk_state.specs.Desk.{Desk, gap_of, InOrder, put_at, emptied_at}
 use Rattle.desk_state.specs.Worked.{Worked}
 use Rattle.rows_right.specs.Right.{RowRight}

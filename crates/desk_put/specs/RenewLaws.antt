@@ -13,7 +13,7 @@ use Rattle.marks.proofs.Buffer.{on_axis_lem}
 use Rattle.pieces.specs.Pieces.{Store, PiecesInOrder, axes_of}
 use Rattle.pieces.specs.Store.{ranged}
 use Rattle.pieces_box.specs.ShapeBox.{Boxed, key_in}
-use Rattle.pieces_box.specs.KeysLaws.{key_in_lem}
+use Rattle.pieces_box.proofs.KeysLaws.{key_in_lem}
 use Rattle.desk_state.specs.Worked.{Worked}
 use Rattle.desk_put.specs.Handled.{keys_for, RenewedIn}
 

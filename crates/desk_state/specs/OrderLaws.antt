@@ -11,7 +11,7 @@ use Rattle.marks.specs.Keys.{KeyedMarks}
 use Rattle.marks_test.specs.Tested.{TestedMarks}
 use Rattle.pieces.specs.Pieces.{Store, PiecesInOrder, axes_of}
 use Rattle.pieces_box.specs.ShapeBox.{Boxed, KeysIn}
-use Rattle.pieces_box.specs.KeysLaws.{keyed_in}
+use Rattle.pieces_box.proofs.KeysLaws.{keyed_in}
 use Rattle.desk_state.specs.Desk.{Desk, InOrder}
 use Rattle.desk_state.specs.Worked.{Worked, RestInOrder, RestDecided}
 

@@ -14,7 +14,7 @@ use off_write::write_corners;
 use pieces::index::index_of;
 
 // 0 and how many bytes were written, or the number of the refusal and 0.
-#[derive(Drop)]
+#[derive(Clone, Copy)]
 pub struct Written {
     pub number: u8,
     pub count: usize,

@@ -1,11 +1,11 @@
 -- The order of ℤ: `a ≤ℤ b` is `b ≡ a +ℤ pos n` for some n, and `a <ℤ b` is `b ≡ a +ℤ pos (suc n)`. The laws of an ordered ring follow from that and ring identities.
-use Rattle.std.specs.Prelude.{◌≡◌, refl, [], ◌∷◌, ◌⊎◌, Bool, true, false, not, cond, ℕ, suc, ◌+◌, ◌*◌, ◌-◌, ◌≤◌, ◌<◌, T, ltb, ℤ, pos, negsuc, neg_ℤ, ◌+ℤ◌, ◌-ℤ◌, ◌*ℤ◌, ◌≤ℤ◌, ◌<ℤ◌}
-use Rattle.std.proofs.Common.{sym, ap, ap₂, ◌∙◌, subst, inl, inr, ⊎_elim, arith, leb→le, le→leb, ltb→lt, lt→ltb, nltb→le}
-use Rattle.std.proofs.Math.IntN.{sub_ℕ, +ℤ_idl, +ℤ_idr, +ℤ_assoc, +ℤ_invr, *ℤ-zero}
-use Rattle.std.specs.Int.Signed.{≤ℤ_refl, clash_ℤ}
+use Rattle.std.specs.Prelude.{◌≡◌, refl, [], ◌∷◌, ◌⊎◌, ℕ, suc, ◌+◌, ◌*◌, ◌≤◌, ◌<◌, ℤ, pos, neg_ℤ, ◌+ℤ◌, ◌-ℤ◌, ◌*ℤ◌, ◌≤ℤ◌, ◌<ℤ◌}
+use Rattle.std.proofs.Common.{sym, ap, ap₂, ◌∙◌, subst, inl, inr, ⊎_elim, arith, leb→le, le→leb, ltb→lt, lt→ltb}
+use Rattle.std.proofs.Math.IntN.{+ℤ_idl, +ℤ_idr, +ℤ_assoc, +ℤ_invr, *ℤ-zero}
+use Rattle.std.specs.Int.Signed.{clash_ℤ}
 use Rattle.ints.specs.Laws.{negℤ-*ℤ}
 use Rattle.ints.proofs.Quote.{sides, by_ring}
-use Rattle.ints.specs.Order.{le_dest, le_intro, le_by, lt_dest, lt_intro, lt_by, ≤ℤ-trans, lt→≤ℤ, ≤ℤ-<ℤ-trans, le-or-lt, ≤ℤ-antisymm, trichotomy, le_of_eq}
+use Rattle.ints.specs.Order.{le_dest, le_by, lt_dest, lt_by, lt→≤ℤ, le-or-lt, ≤ℤ-antisymm, trichotomy, le_of_eq}
 
 -- ---- the order by the difference
 plus_minus : (a n : ℤ) → a +ℤ n -ℤ a ≡ pos 0 +ℤ n

@@ -1,6 +1,6 @@
 -- A ring solver for ℤ by reflection: `Expr` is a polynomial with variables by number, `eval ρ e` its value, `norm e` its normal form, a sorted list of monomials with coefficients that are not 0.
 -- `ring-0`: two expressions whose difference has the empty normal form have one value. Soundness asks nothing of the order of monomials: only that what `cmp` takes for equal is equal.
-use Rattle.std.specs.Prelude.{◌≡◌, refl, List, [], ◌∷◌, T, ℤ, pos, negsuc, neg_ℤ, ◌+ℤ◌, ◌-ℤ◌, ◌*ℤ◌}
+use Rattle.std.specs.Prelude.{◌≡◌, refl, List, T, ℤ, pos, negsuc, neg_ℤ, ◌+ℤ◌, ◌*ℤ◌}
 use Rattle.std.proofs.Common.{sym, ap, ap₂, ◌∙◌, eqb→eq}
 use Prim.Native.Nat.{ℕ, zero, suc, compare, Ordering}
 use Rattle.std.proofs.Math.Dec.{compare_is_eq}

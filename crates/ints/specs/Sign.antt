@@ -1,11 +1,5 @@
 -- Signs. `Same t u`: t and u have one sign. `lex u v` is u, or v where u is 0. A number k a + b, with b smaller than k, has the sign of lex a b.
-use Rattle.std.specs.Prelude.{◌≡◌, refl, [], ◌∷◌, ◌⊎◌, ℕ, zero, suc, ◌+◌, ◌*◌, ◌≤◌, ◌<◌, ℤ, pos, negsuc, neg_ℤ, ◌+ℤ◌, ◌*ℤ◌, ◌≤ℤ◌, ◌<ℤ◌}
-use Rattle.std.proofs.Common.{sym, ap, ◌∙◌, subst, ⊎_elim, le→leb}
-use Rattle.std.proofs.Math.IntN.{*ℤ-zero, +ℤ_idl}
-use Rattle.std.specs.Int.Signed.{clash_ℤ, <ℤ_irrefl}
-use Rattle.ints.specs.Order.{le-or-lt, trichotomy, lt→≤ℤ, le_of_eq}
-use Rattle.ints.specs.Bounds.{Within}
-use Rattle.ints.specs.Order.{≤ℤ-<ℤ-trans}
+use Rattle.std.specs.Prelude.{◌≡◌, zero, suc, ℤ, pos, negsuc, neg_ℤ, ◌<ℤ◌}
 
 pub record Same (t u : ℤ) : Type 0 where
   pub down : u <ℤ pos 0 → t <ℤ pos 0

@@ -2,7 +2,7 @@
 // A word of the program names one of them.
 
 // A scanner's binary STL (request W2), or a pattern shop's OFF text (request W7).
-#[derive(Drop)]
+#[derive(Clone, Copy)]
 pub enum FileKind {
     Stl,
     Off,

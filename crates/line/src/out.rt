@@ -14,6 +14,9 @@ const COUNT_DIGITS: usize = 20;
 // A byte in hex.
 const BYTE_DIGITS: usize = 2;
 
+// The descriptor of standard output.
+const STANDARD_OUTPUT: i32 = 1;
+
 // The buffer.
 pub fn buffer() -> [u8; BUFFER]
     ensures { 16384 ≡ length result }
@@ -26,7 +29,7 @@ pub fn flush(out: &mut [u8], at: usize) -> usize
     ensures { result ≡ 0 }
 {
     if at <= out.len() {
-        io::write_all(libc::STDOUT_FILENO, &out[0..at]);
+        io::write_all(STANDARD_OUTPUT, &out[0..at]);
     }
     0
 }

@@ -13,9 +13,11 @@ use line_read::{files, floats, lists, texts};
 use line_save::save;
 use line_spoil::Cell;
 use line_tell::{load_file, tell};
+use std::rt::Files;
 
 // Puts the answer to a line, and hands back the next place.
 pub fn answer(
+    rt: &impl Files,
     trial: bool,
     line: &[u8],
     out: &mut [u8],
@@ -40,10 +42,10 @@ pub fn answer(
         Line::Ask(a) => asked::ask(a, texts, lent, shapes, places, rows, book, marks, out, at),
         Line::Spoil(cell) => spoil(trial, cell, shapes, places, rows, book, marks, out, at),
         Line::LoadFile(kind) => load_file(
-            kind, line, numbers, lent, shapes, places, rows, book, marks, out, at,
+            rt, kind, line, numbers, lent, shapes, places, rows, book, marks, out, at,
         ),
         Line::SaveFile => save(
-            line, texts, lent, shapes, places, rows, book, marks, out, at,
+            rt, line, texts, lent, shapes, places, rows, book, marks, out, at,
         ),
         Line::Other(o) => other(trial, o, line, out, at, texts, numbers, lent),
     }

@@ -10,7 +10,7 @@ use Rattle.line_command.specs.declared.Line.TheVariants.{Other}
 use Rattle.line_command.specs.declared.Other.{Other as OtherLine}
 use Rattle.line_command.specs.declared.Other.TheVariants.{Nothing, Unknown}
 use Rattle.line_input.specs.Input.{bare, held_bytes, Holds}
-use Rattle.line_input.specs.InputLaws.{bare_long, bare_first}
+use Rattle.line_input.proofs.InputLaws.{bare_long, bare_first}
 use Rattle.line_answer.specs.Answered.{Kept, marks_lent, ByLine, Answered}
 use Rattle.line_answer.specs.AnsweredLaws.{answered_other}
 

@@ -4,7 +4,7 @@ use Rattle.std.specs.Prelude.{ℕ, ◌+◌, ◌≤◌, ◌<◌, ◌≡◌, refl,
 use Rattle.std.proofs.Common.{sym, ap, ◌∙◌, subst, inl, inr, add-one, take-suc}
 use Rattle.std.proofs.lemmas.List.{map-append}
 use Rattle.line_input.specs.Input.{end_byte, bare, Fed, fed, held_bytes, Holds}
-use Rattle.line_input.specs.InputLaws.{fed_none, fed_end, fed_other, fed_more_lem, fed_lines, holds_none, holds_next}
+use Rattle.line_input.proofs.InputLaws.{fed_none, fed_end, fed_other, fed_more_lem, fed_lines, holds_none, holds_next}
 use Rattle.line_answer.specs.Answered.{Kept}
 use Rattle.line_feed.specs.Served.{Serves, Served, none, more, Feeds, FeedsSome, ServedAll}
 

@@ -12,9 +12,10 @@ use line::{lent, out};
 use line_answer::answer;
 use line_input::{LINE_END, bare, hold};
 use line_io::write_out;
+use std::rt::Files;
 
 // How the program was started: on trial the test tools are answered; with an echo each line that gets an answer is written before it.
-#[derive(Drop)]
+#[derive(Clone, Copy)]
 pub struct Mode {
     pub trial: bool,
     pub echo: bool,
@@ -30,6 +31,7 @@ pub struct Place {
 
 // Feeds a piece of the input, byte by byte, as long as the answers can be written.
 pub fn feed(
+    rt: &(impl Files + Print + Eprint),
     mode: Mode,
     piece: &[u8],
     start: Place,
@@ -56,7 +58,7 @@ pub fn feed(
             return place;
         }
         place = feed_byte(
-            mode, piece[i], place, held, out, texts, numbers, lent, shapes, places, rows, book,
+            rt, mode, piece[i], place, held, out, texts, numbers, lent, shapes, places, rows, book,
             marks,
         );
         i += 1;
@@ -66,6 +68,7 @@ pub fn feed(
 
 // A byte that ends a line has it answered; any other is kept.
 fn feed_byte(
+    rt: &(impl Files + Print + Eprint),
     mode: Mode,
     byte: u8,
     place: Place,
@@ -89,7 +92,7 @@ fn feed_byte(
     let at = place.at;
     if byte == LINE_END {
         let next = answer_held(
-            mode, held, kept, out, at, texts, numbers, lent, shapes, places, rows, book, marks,
+            rt, mode, held, kept, out, at, texts, numbers, lent, shapes, places, rows, book, marks,
         );
         return Place { kept: 0, at: next };
     }
@@ -99,6 +102,7 @@ fn feed_byte(
 
 // Answers the line that is kept.
 pub fn answer_held(
+    rt: &(impl Files + Print + Eprint),
     mode: Mode,
     held: &[u8],
     kept: usize,
@@ -123,18 +127,18 @@ pub fn answer_held(
     let line = bare(&held[0..n]);
     let next = echoed(echo, line, out, at);
     let next = answer(
-        trial, line, out, next, texts, numbers, lent, shapes, places, rows, book, marks,
+        rt, trial, line, out, next, texts, numbers, lent, shapes, places, rows, book, marks,
     );
-    settled(out, next)
+    settled(rt, out, next)
 }
 
 // Writes the answers out once they fill half of the buffer. The longest answer fits the other half of the program's: a report of 8,128
 // contacts at 43 bytes each, behind a line of 16,384.
-fn settled(out: &mut [u8], at: usize) -> usize {
+fn settled(rt: &(impl Print + Eprint), out: &mut [u8], at: usize) -> usize {
     if at <= out.len() / 2 {
         return at;
     }
-    write_out(out, at)
+    write_out(rt, out, at)
 }
 
 // Puts a line before its answer, behind `> `, where that is asked for. One that is passed over gets no answer; of one that is too long the

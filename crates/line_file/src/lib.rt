@@ -7,6 +7,9 @@ ghost use Rattle.line_file.specs.Requests.{ShapePathOf, OfFile, Requests, GotWit
 ghost use Rattle.line.specs.declared.kinds.FileKind.TheVariants.{Stl, Off};
 
 use line::kinds::FileKind;
+use std::fs;
+use std::io::Read;
+use std::rt::Files;
 use text_number::{Number, read_number};
 
 // What a line asks to be loaded: a shape's number, and how many numbers stand in the room, the corners' behind the first; the reader's
@@ -66,20 +69,26 @@ pub fn shape_and_path(line: &[u8]) -> ShapePath
     ShapePath::At(shape, next + 1)
 }
 
-pub fn requested(kind: FileKind, line: &[u8], numbers: &mut [i32]) -> Request
+pub fn requested(rt: &impl Files, kind: FileKind, line: &[u8], numbers: &mut [i32]) -> Request
     ensures { Requests kind line.now numbers.new result }
 {
     let ShapePath::At(shape, start) = shape_and_path(line) else {
         return Request::Bad;
     };
-    from_path(kind, shape, &line[start..], numbers)
+    from_path(rt, kind, shape, &line[start..], numbers)
 }
 
-fn from_path(kind: FileKind, shape: i32, path: &[u8], numbers: &mut [i32]) -> Request
+fn from_path(
+    rt: &impl Files,
+    kind: FileKind,
+    shape: i32,
+    path: &[u8],
+    numbers: &mut [i32],
+) -> Request
     ensures { OfFile kind shape numbers.new result }
 {
     let mut room = buffer();
-    let File::Bytes(n) = read_file(path, &mut room) else {
+    let File::Bytes(n) = read_file(rt, path, &mut room) else {
         return Request::Bad;
     };
     match kind {
@@ -119,25 +128,26 @@ fn from_off(shape: i32, text: &[u8], numbers: &mut [i32]) -> Request
     Request::Load(shape, n + 1)
 }
 
-fn read_file(path: &[u8], room: &mut [u8]) -> File
+// Only a path that is UTF-8 has a file.
+fn read_file(rt: &impl Files, path: &[u8], room: &mut [u8]) -> File
     ensures { FileWithin (length room.old) result }
 {
-    let fd = os::open_read(path);
-    if fd < 0 {
+    let Ok(path) = str::from_utf8(path) else {
         return File::Bad;
-    }
-    let read = read_all(fd, room);
-    libc::close(fd);
-    read
+    };
+    let Ok(mut file) = fs::open(rt, path) else {
+        return File::Bad;
+    };
+    read_all(&mut file, room)
 }
 
 // Reads up to the file's end. A file that fills the room is too long.
-fn read_all(fd: i32, room: &mut [u8]) -> File
+fn read_all(file: &mut impl Read, room: &mut [u8]) -> File
     ensures { FileWithin (length room.old) result }
 {
     let mut at: usize = 0;
     while at < room.len() {
-        let Got::Bytes(n) = read_behind(fd, room, at) else {
+        let Got::Bytes(n) = read_behind(file, room, at) else {
             return File::Bad;
         };
         if n == 0 {
@@ -148,20 +158,18 @@ fn read_all(fd: i32, room: &mut [u8]) -> File
     File::Bad
 }
 
-fn read_behind(fd: i32, room: &mut [u8], at: usize) -> Got
+fn read_behind(file: &mut impl Read, room: &mut [u8], at: usize) -> Got
     requires { at ≤ length room.old }
     ensures { GotWithin (length room.old - at) result }
 {
-    read_part(fd, &mut room[at..])
+    read_part(file, &mut room[at..])
 }
 
-fn read_part(fd: i32, part: &mut [u8]) -> Got
+fn read_part(file: &mut impl Read, part: &mut [u8]) -> Got
     ensures { GotWithin (length part.old) result }
 {
-    let got = libc::read(fd, part);
-    if got < 0 {
-        return Got::Failed;
+    match file.read(part) {
+        Ok(n) => Got::Bytes(n),
+        Err(_) => Got::Failed,
     }
-    let n = io::count(got, part);
-    Got::Bytes(n)
 }

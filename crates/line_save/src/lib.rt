@@ -9,6 +9,10 @@ use desk_write::write;
 use line::lent::at_most;
 use line::{lent, out};
 use line_file::{ShapePath, shape_and_path};
+use std::fs;
+use std::fs::{OpenFile, OpenOptions};
+use std::io::{ErrorKind, Seek, SeekFrom, Write};
+use std::rt::Files;
 
 // How many bytes of the room are the text, and where the line's path begins; the refusal; or the line is no command.
 #[derive(Drop)]
@@ -19,10 +23,11 @@ enum Saving {
 }
 
 // The longest path there is.
-const PATH_BYTES: usize = libc::PATH_MAX - 1;
+const PATH_BYTES: usize = 4095;
 
 // Saves the shape that a line names, from a desk with as many marks as are lent. All of the room is for the text.
 pub fn save(
+    rt: &impl Files,
     line: &[u8],
     room: &mut [u8],
     lent: &[usize; lent::COUNTS],
@@ -37,7 +42,7 @@ pub fn save(
     let m = at_most(lent[lent::MARKS_LENT], marks.len());
     match wanted(line, room, shapes, places, rows, book, &marks[0..m]) {
         Saving::Text(n, start) => {
-            let saved = to_file(&line[start..], &room[0..n]);
+            let saved = to_file(rt, &line[start..], &room[0..n]);
             out::done_if(out, at, saved)
         }
         Saving::Refused(number) => out::refused(out, at, number),
@@ -71,43 +76,56 @@ fn wanted(
     Saving::Text(count, start)
 }
 
-// Whether the text is at the path now. Where it is not, the path is as it was.
-fn to_file(path: &[u8], text: &[u8]) -> bool {
-    if !is_replaceable(path) {
+// Whether the text is at the path now. Where it is not, the path is as it was. A path that is not UTF-8 cannot be had.
+fn to_file(rt: &impl Files, path: &[u8], text: &[u8]) -> bool {
+    let Ok(to) = str::from_utf8(path) else {
+        return false;
+    };
+    if !is_replaceable(rt, to) {
         return false;
     }
     let mut beside = [0u8; PATH_BYTES];
     let end = text_put::put(&mut beside, 0, path);
     let n = text_put::put(&mut beside, end, b".part");
     if end == path.len() && end < n {
-        return put_beside(&beside[0..n], path, text);
+        return put_beside(rt, &beside[0..n], to, text);
     }
     false
 }
 
 // Whether nothing stands at the path, or a file that can be written. What is no regular file, as a device, cannot be cut to any length.
-fn is_replaceable(path: &[u8]) -> bool {
-    let fd = os::open_update(path);
-    if fd < 0 {
-        return os::errno() == libc::ENOENT;
+fn is_replaceable(rt: &impl Files, path: &str) -> bool {
+    match OpenOptions::new().read(true).write(true).open(rt, path) {
+        Ok(mut file) => match file.seek(SeekFrom::End(0)) {
+            Ok(end) => file.set_len(end).is_ok(),
+            Err(_) => false,
+        },
+        Err(error) => error.kind() == ErrorKind::NotFound,
     }
-    let end = libc::lseek(fd, 0, libc::SEEK_END);
-    let is_file = libc::ftruncate(fd, end) == 0;
-    libc::close(fd);
-    is_file
 }
 
 // The name beside must be free: what stands there already is somebody's. A file that did not become the path's is taken away again.
-fn put_beside(beside: &[u8], path: &[u8], text: &[u8]) -> bool {
-    let fd = os::create(beside);
-    if fd < 0 {
+fn put_beside(rt: &impl Files, beside: &[u8], path: &str, text: &[u8]) -> bool {
+    let Ok(beside) = str::from_utf8(beside) else {
         return false;
-    }
-    let whole = io::write_all(fd, text);
-    let closed = libc::close(fd) == 0;
-    if whole && closed && os::rename(beside, path) == 0 {
+    };
+    let Ok(file) = OpenOptions::new()
+        .write(true)
+        .create_new(true)
+        .open(rt, beside)
+    else {
+        return false;
+    };
+    if put_in(file, text) && fs::rename(rt, beside, path).is_ok() {
         return true;
     }
-    os::unlink(beside);
+    fs::remove_file(rt, beside).is_ok();
     false
+}
+
+// Whether all of the text is in the file. A file that is closed does not say whether all of it came to the disk; so that is asked before.
+fn put_in(mut file: impl Write + OpenFile + Drop, text: &[u8]) -> bool {
+    let whole = file.write_all(text).is_ok();
+    let kept = file.sync_all().is_ok();
+    whole && kept
 }

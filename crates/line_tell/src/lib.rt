@@ -14,6 +14,7 @@ use line::kinds::FileKind;
 use line::lent::at_most;
 use line::{lent, out};
 use line_file::{Request, requested};
+use std::rt::Files;
 
 // The desk before the first line, in a marks buffer that is longer than its marks.
 pub fn fresh(
@@ -66,6 +67,7 @@ pub fn tell(
 // `load-stl S PATH` and `load-off S PATH`: the desk is told to load the corners of a file. Where the reader refuses the file, the desk is
 // not asked.
 pub fn load_file(
+    rt: &impl Files,
     kind: FileKind,
     line: &[u8],
     numbers: &mut [i32],
@@ -82,7 +84,7 @@ pub fn load_file(
         (desk_of shapes.old places.old rows.old book.old marks.old)
         (desk_of shapes.new places.new rows.new book.new marks.new) }
 {
-    match requested(kind, line, numbers) {
+    match requested(rt, kind, line, numbers) {
         Request::Load(shape, count) => tell(
             Command::Load(shape),
             count,

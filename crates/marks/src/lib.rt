@@ -17,7 +17,7 @@ pub const START_Y: usize = limits::AXIS_MARKS;
 pub const START_Z: usize = 2 * limits::AXIS_MARKS;
 
 // The keys of a place's two marks, both NO_KEY where it is empty.
-#[derive(Drop)]
+#[derive(Clone, Copy)]
 pub struct MarkKeys {
     pub low: u32,
     pub high: u32,

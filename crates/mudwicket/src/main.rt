@@ -17,24 +17,31 @@ use line::lent;
 use line_feed::{Mode, Place, answer_held, feed};
 use line_io::{read_in, write_out};
 use line_tell::fresh;
+use std::rt::Files;
 use words::words;
 
 // A word that is not known gets a line of usage, and nothing else.
-fn main() {
-    let found = words();
+fn main(rt: HostRuntime) {
+    let found = words(&rt);
     let known = found.known;
     if !known {
-        usage(b"usage: mudwicket [--trial] [--echo], with the commands on standard input\n");
+        usage(
+            &rt,
+            b"usage: mudwicket [--trial] [--echo], with the commands on standard input\n",
+        );
         return;
     }
-    desk(Mode {
-        trial: found.trial,
-        echo: found.echo,
-    });
+    desk(
+        &rt,
+        Mode {
+            trial: found.trial,
+            echo: found.echo,
+        },
+    );
 }
 
-fn usage(text: &[u8]) {
-    write_out(text, text.len());
+fn usage(rt: &(impl Print + Eprint), text: &[u8]) {
+    write_out(rt, text, text.len());
 }
 
 // Room for the answers that were not written yet: twice the longest answer and more.
@@ -48,7 +55,7 @@ fn answers() -> [u8; ANSWERS]
 
 // What is lent to every line: the bytes that were read, the line whose end did not come yet, the answers that were not written yet, room
 // for a command's texts and for its numbers, how much of it is lent, and the desk.
-fn desk(mode: Mode) {
+fn desk(rt: &(impl Files + Input + Print + Eprint), mode: Mode) {
     let mut input = io::large_buffer();
     let mut held = line_input::buffer();
     let mut out = answers();
@@ -61,6 +68,7 @@ fn desk(mode: Mode) {
     let mut book = [0u32; limits::BOOK];
     let mut marks = lent::marks();
     run(
+        rt,
         mode,
         &mut input,
         &mut held,
@@ -95,6 +103,7 @@ struct Waiting {
 // Starts the desk afresh and serves the input. Whatever bytes arrive, the desk is then reached by the accepted commands of its lines, in their
 // order; on trial nothing is promised of that.
 fn run(
+    rt: &(impl Files + Input + Print + Eprint),
     mode: Mode,
     input: &mut [u8],
     held: &mut [u8],
@@ -116,13 +125,14 @@ fn run(
 {
     fresh(shapes, places, rows, book, marks);
     serve(
-        mode, input, held, out, texts, numbers, lent, shapes, places, rows, book, marks,
+        rt, mode, input, held, out, texts, numbers, lent, shapes, places, rows, book, marks,
     );
 }
 
 // A read a round. A proved loop has to end, and nothing says that the input does: so the rounds are counted down, from a number that no run
 // uses up. The last line may lack its end. Where a write or a read has failed, the program stops at once.
 fn serve(
+    rt: &(impl Files + Input + Print + Eprint),
     mode: Mode,
     input: &mut [u8],
     held: &mut [u8],
@@ -149,7 +159,8 @@ fn serve(
     let mut rounds = u64::MAX;
     while rounds > 0 && r.open {
         r = round(
-            mode, input, r.kept, held, out, texts, numbers, lent, shapes, places, rows, book, marks,
+            rt, mode, input, r.kept, held, out, texts, numbers, lent, shapes, places, rows, book,
+            marks,
         );
         rounds -= 1;
     }
@@ -157,13 +168,14 @@ fn serve(
         return;
     }
     let at = answer_held(
-        mode, held, r.kept, out, 0, texts, numbers, lent, shapes, places, rows, book, marks,
+        rt, mode, held, r.kept, out, 0, texts, numbers, lent, shapes, places, rows, book, marks,
     );
-    write_out(out, at);
+    write_out(rt, out, at);
 }
 
 // Reads once, feeds what was read, and writes the answers out, so that a person sees the answer to each line before typing the next.
 fn round(
+    rt: &(impl Files + Input + Print + Eprint),
     mode: Mode,
     input: &mut [u8],
     kept: usize,
@@ -183,7 +195,7 @@ fn round(
         (kept_of shapes.new places.new rows.new book.new marks.new lent.new)
         held.new result.kept }
 {
-    let n = read_in(input);
+    let n = read_in(rt, input);
     if input.len() < n {
         return Waiting {
             kept,
@@ -193,6 +205,7 @@ fn round(
     }
     let start = Place { kept, at: 0 };
     let place = feed(
+        rt,
         mode,
         &input[0..n],
         start,
@@ -208,7 +221,7 @@ fn round(
         marks,
     );
     let more = place.kept;
-    let at = write_out(out, place.at);
+    let at = write_out(rt, out, place.at);
     let failed = out.len() < at;
     Waiting {
         kept: more,

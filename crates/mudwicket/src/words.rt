@@ -3,6 +3,7 @@
 ghost use Rattle.std.specs.Prelude.{◌≤◌, ◌≡◌, length};
 
 use line::names::name_of;
+use std::env::{Env, FillError};
 
 // Which of them there are, and whether there is no other.
 #[derive(Drop)]
@@ -21,25 +22,21 @@ fn buffer() -> [u8; WORD]
     [0; WORD]
 }
 
-pub fn words() -> Found {
-    let n = os::arg_count();
+pub fn words(rt: &impl Env) -> Found {
     let mut found = Found {
         trial: false,
         echo: false,
         known: true,
     };
-    let mut i: usize = 1;
-    while i < n {
-        found = with_word(found, i);
-        i += 1;
+    for i in 1..usize::MAX {
+        let mut word = buffer();
+        match rt.arg(i, &mut word) {
+            Ok(n) => found = named(found, &word[..n]),
+            Err(FillError::TooLong) => found.known = false,
+            Err(FillError::NotPresent) => return found,
+        }
     }
     found
-}
-
-fn with_word(found: Found, i: usize) -> Found {
-    let mut word = buffer();
-    let n = os::arg(i, &mut word);
-    named(found, &word[..n])
 }
 
 fn named(found: Found, word: &[u8]) -> Found {

@@ -1,7 +1,7 @@
 -- What `least_to` and `greatest_to` are: a bound of the first n values, and one of them, if there are any.
 -- So a piece's ends on an axis are its least and its greatest placed corner.
 use Rattle.std.specs.Prelude.{◌≡◌, refl, Bool, true, false, cond, ℤ, ◌≤ℤ◌}
-use Rattle.std.proofs.Common.{sym, subst, ⊎_elim}
+use Rattle.std.proofs.Common.{subst, ⊎_elim}
 use Prim.Native.Nat.{ℕ, zero, suc, ◌≤◌, ◌<◌}
 use native.Mathlib.Omega.{arith}
 use Rattle.std.specs.Int.Signed.{lt_z, ≤ℤ_refl}

@@ -1,6 +1,6 @@
 -- Laws of a store whose shapes and places are in order: what the functions ask holds of its taken places, and its pieces are lists of placed corners.
 -- And that a piece depends on its own place and shape alone.
-use Rattle.std.specs.Prelude.{◌≡◌, List, [], ◌∷◌, ◌++◌, Bool, true, false, not, ◌⊎◌, ℕ, zero, suc, ◌+◌, ◌-◌, ◌*◌, ◌/◌, ◌%◌, ◌≤◌, ◌<◌, eqb, length, get_or, ℤ, pos}
+use Rattle.std.specs.Prelude.{◌≡◌, [], ◌∷◌, ◌++◌, Bool, true, false, not, ℕ, zero, suc, ◌+◌, ◌*◌, ◌/◌, ◌%◌, ◌≤◌, ◌<◌, eqb, length, get_or, ℤ, pos}
 use Rattle.std.proofs.Math.Path.{refl, ap₂}
 use Rattle.std.proofs.Common.{sym, ap, ◌∙◌, subst, ⊎_elim, arith, add-one, length-append, get_or-append-add}
 use Rattle.std.proofs.Math.ListN.{get_or-append}
@@ -12,7 +12,7 @@ use Rattle.space.specs.Lists.{Placed}
 use Rattle.turns.specs.Turns.{placed_at}
 use Rattle.marks.specs.Marks.{axis_of, mark_place, side_of, RangedMarks}
 use Rattle.marks.proofs.Order.{mark_low}
-use Rattle.pieces.specs.Pieces.{Store, Taken, PiecesInOrder, held_in, turn_in, corners_of, shape_value, shape_at, turn_at, offset_at, count_at}
+use Rattle.pieces.specs.Pieces.{Store, Taken, PiecesInOrder, held_in, turn_in, shape_value, shape_at, turn_at, offset_at, count_at}
 use Rattle.pieces.specs.Pieces.{placed_corner, list_to, piece_at, least_to, greatest_to, lesser, greater, low_at, high_at, taken_at, axes_of}
 use Rattle.pieces.specs.Taking.{taken_decided}
 use Rattle.pieces.specs.Placed.{number_at, PoseFits, pose_of, PoseAsked, number_within, pick, least_within, greatest_within, placed_eq}

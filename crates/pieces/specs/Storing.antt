@@ -1,7 +1,7 @@
 -- Laws of a run of stores: what stands in the cells that it wrote, and in every other.
 -- A shape is stored so, and so is a placement.
 use Rattle.std.specs.Prelude.{◌≡◌, refl, List, [], ◌∷◌, ◌⊎◌, ℕ, zero, suc, ◌+◌, ◌≤◌, ◌<◌, length, get_or, set, ℤ, pos}
-use Rattle.std.proofs.Common.{ap, ◌∙◌, inl, inr, arith, add-one, length-set, get_or-set_same, get_or-set_other}
+use Rattle.std.proofs.Common.{ap, ◌∙◌, inl, inr, arith, length-set, get_or-set_same, get_or-set_other}
 use Rattle.std.proofs.lemmas.List.Edits.{sets}
 
 pub sets_other : (vs l : List ℤ) (i k : ℕ) → (k < i) ⊎ (i + length vs ≤ k) → get_or (sets l i vs) k (pos 0) ≡ get_or l k (pos 0)

@@ -11,7 +11,7 @@ use crate::index::index_of;
 use turns::placed_axis;
 
 // Where the numbers of a piece's shape start, how many corners it has, and its turn.
-#[derive(Drop)]
+#[derive(Clone, Copy)]
 pub struct Pose {
     pub start: usize,
     pub count: usize,

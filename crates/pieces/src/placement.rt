@@ -5,7 +5,7 @@ ghost use Rattle.limits.specs.Limits;
 ghost use Rattle.limits.specs.Numbered.{Numbered};
 ghost use Rattle.pieces.specs.Pieces.{put_in};
 
-#[derive(Drop)]
+#[derive(Clone, Copy)]
 pub struct Placement {
     pub shape: i32,
     pub turn: i32,
@@ -15,7 +15,7 @@ pub struct Placement {
 }
 
 // The three numbers of an offset.
-#[derive(Drop)]
+#[derive(Clone, Copy)]
 pub struct Offset {
     pub x: i32,
     pub y: i32,

@@ -9,14 +9,14 @@ ghost use Rattle.pieces.specs.Pieces.{lesser, greater};
 use pieces::index::index_of;
 
 // The least and the greatest number on one axis.
-#[derive(Drop)]
+#[derive(Clone, Copy)]
 pub struct Ends {
     pub low: i32,
     pub high: i32,
 }
 
 // The ends on each axis.
-#[derive(Drop)]
+#[derive(Clone, Copy)]
 pub struct ShapeBox {
     pub x: Ends,
     pub y: Ends,

@@ -10,7 +10,7 @@ use Rattle.rows.specs.Rows.{PairOf, RowsInOrder, cell}
 use Rattle.ints.specs.Counts.{one_if}
 use Rattle.rows_list.specs.Contacts.{contact, only_if, listed, contacts_from, contacts, refusals, Lists}
 use Rattle.rows.specs.Cells.{low_of, high_of_lem, one_cell}
-use Rattle.rows.specs.Handling.{by_pair}
+use Rattle.rows.proofs.Handling.{by_pair}
 use Rattle.rows_list.specs.declared.Listed.{Listed}
 use Rattle.rows_list.specs.declared.Listed.TheVariants.{Rows, Refused}
 

@@ -11,7 +11,7 @@ ghost use Rattle.rows_list.specs.Contacts.{contact, listed, contacts, Lists};
 use rows::sized_rows;
 
 // The answer to a listing: how many rows, or the number of the refusal.
-#[derive(Drop)]
+#[derive(Clone, Copy)]
 pub enum Listed {
     Rows(u32),
     Refused(u8),

@@ -2,12 +2,11 @@
 -- With no box apart it is the verdict of the two pieces, the lower place named first and widened by the gap.
 use Rattle.std.specs.Prelude.{◌≡◌, refl, ◌⊎◌, ℕ, ◌+◌, ◌*◌, ◌<◌, List, ℤ, pos, ◌+ℤ◌, ◌<ℤ◌, length, take}
 use Rattle.std.proofs.Common.{sym, ap, ◌∙◌, subst, inl, inr, arith}
-use Rattle.limits.specs.Limits
 use Rattle.space.specs.Verdicts.{VerdictIs}
 use Rattle.space.proofs.ExclusionLaws.{verdict_once}
 use Rattle.space.specs.Lists.{Placed}
 use Rattle.rows.specs.Rows.{Verdict, RowPut, Handled}
-use Rattle.rows.specs.Handling.{handled_skip, handled_put}
+use Rattle.rows.proofs.Handling.{handled_skip, handled_put}
 use Rattle.verdict.specs.Answers.{Carries}
 use Rattle.verdict.specs.declared.Answer.{Answer}
 use Rattle.pieces.specs.Pieces.{Store, piece_at, count_at, Taken}

@@ -1,6 +1,6 @@
 -- "Four tallies count the verdicts; with n places taken they add up to n(n−1)/2." (document 01, "Rows"): so they do where rows and book are in order.
 -- The rows are summed line by line: the line of a taken place has a verdict for each taken place above it.
-use Rattle.std.specs.Prelude.{ℕ, zero, suc, ◌+◌, ◌-◌, ◌*◌, ◌/◌, ◌≤◌, ◌<◌, ◌≡◌, refl, List, Bool, true, false, not, ◌⊎◌, eqb, ltb, ℤ, nat_abs, length, get_or, take}
+use Rattle.std.specs.Prelude.{ℕ, zero, suc, ◌+◌, ◌-◌, ◌*◌, ◌≤◌, ◌<◌, ◌≡◌, refl, List, Bool, true, false, ◌⊎◌, eqb, ltb, ℤ, nat_abs, length, get_or, take}
 use Rattle.std.proofs.Common.{sym, ap, ap₂, ◌∙◌, inl, inr, mul-add, add-mul, mul-suc, suc-mul, zero-mul, mul-zero, arith, take_all, eq-eqb, ne_eqb, lt-ltb, le-ltb}
 use Rattle.limits.specs.Limits
 use Rattle.pieces.specs.Pieces.{held_in, Taken, taken_in}

@@ -13,7 +13,7 @@ use Rattle.pieces.specs.Pieces.{Store, store_of, Sized, Loaded, Taken, held_in, 
 use Rattle.pieces.specs.Store.{SameAt}
 use Rattle.rows.specs.Rows.{PairOf, row_at, Handled}
 use Rattle.ints.specs.Cases.{by-same, by_less}
-use Rattle.rows.specs.Handling.{pair_stayed, handled_right, handled_other}
+use Rattle.rows.proofs.Handling.{pair_stayed, handled_right, handled_other}
 use Rattle.rows_tally.specs.Counting.{filled_at}
 use Rattle.desk_state.specs.Desk.{Desk, gap_of, InOrder, put_at, emptied_at, loaded_at, gap_at}
 use Rattle.rows_right.specs.Right.{RowRight}

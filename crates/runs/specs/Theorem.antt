@@ -13,7 +13,7 @@ use Rattle.pieces.specs.Pieces.{Taken, held_in, piece_at, taken_at, axes_of}
 use Rattle.pieces.specs.Store.{taken_of, taken_is, empty-is, ranged}
 use Rattle.pieces.specs.Taking.{by_taken}
 use Rattle.rows.specs.Rows.{PairOf, row_at}
-use Rattle.rows.specs.Handling.{handled_other}
+use Rattle.rows.proofs.Handling.{handled_other}
 use Rattle.rows_tally.specs.Tallies.{BookInOrder}
 use Rattle.rows_tally.specs.Counting.{book_once}
 use Rattle.desk_state.specs.Desk.{Desk, gap_of, InOrder, loaded_at, gap_at}

@@ -10,7 +10,7 @@ use desk::{Command, Outcome};
 use pieces::placement::{Offset, Placement};
 
 // The command of a code, or none where its kind is no command's.
-#[derive(Drop)]
+#[derive(Clone, Copy)]
 pub enum Coded {
     One(Command),
     Passed,

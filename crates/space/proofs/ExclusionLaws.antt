@@ -1,6 +1,6 @@
 -- What follows from the definitions: separate, touching and penetrating exclude each other, so a right verdict is one number, right both ways.
 -- That one of the three always holds is what the walk shows.
-use Rattle.std.specs.Prelude.{◌≡◌, refl, ◌⊎◌, ℕ, ◌+◌, ◌≤◌, ◌<◌, length, pos, negsuc, ◌+ℤ◌, ◌-ℤ◌, ◌*ℤ◌, ◌≤ℤ◌, ◌<ℤ◌}
+use Rattle.std.specs.Prelude.{◌≡◌, refl, ℕ, ◌≤◌, length, pos, negsuc, ◌+ℤ◌, ◌-ℤ◌, ◌*ℤ◌, ◌≤ℤ◌, ◌<ℤ◌}
 use Rattle.std.proofs.Common.{sym, ap₂, ◌∙◌, subst, inl, inr, arith}
 use Rattle.std.proofs.Math.Path.{ap}
 use mathlib.Core.List.Memᴰ
@@ -14,7 +14,7 @@ use Rattle.ints.proofs.OrderLaws.{le_comb, lt_comb, nn_of_le, pos_of_lt, nn_add,
 use Rattle.ints.proofs.SignLaws.{gt_other}
 use Rattle.space.specs.Vectors.{Vec3, dot, minus, origin, env1}
 use Rattle.space.specs.Verdicts.{Piece, Pair, corner_at, widened_at, difference_of, Below, NotAbove, Separate, weighted, Fair, Balance, Meeting, Supported, Touching, Penetrating}
-use Rattle.space.specs.Verdicts.{VerdictIs, separate, touching, penetrating}
+use Rattle.space.specs.Verdicts.{VerdictIs}
 use Rattle.space.specs.Exclusion.{BothWays}
 
 -- ---- a balance along a direction d

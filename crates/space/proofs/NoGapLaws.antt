@@ -1,14 +1,14 @@
 -- "With g = 0 all of 01 as amended stands": with no gap each definition of Verdicts says what the one of NoGap says, both ways.
 -- A corner of the first piece widened by a cube of no size is the corner itself, whatever cube corner is named.
-use Rattle.std.specs.Prelude.{◌≡◌, ◌⊎◌, ◌↔◌, ℕ, zero, suc, ◌/◌, ◌%◌, ◌<◌, ℤ, pos, ◌+ℤ◌, ◌*ℤ◌, ◌≤ℤ◌, ◌<ℤ◌}
+use Rattle.std.specs.Prelude.{◌≡◌, ◌↔◌, ℕ, zero, suc, ◌/◌, ◌%◌, ℤ, pos, ◌+ℤ◌, ◌*ℤ◌, ◌≤ℤ◌, ◌<ℤ◌}
 use Rattle.std.proofs.Math.Path.{refl, ap₂}
 use Rattle.std.proofs.Common.{sym, ap, ◌∙◌, subst, inl, inr, ⊎_elim, arith}
 use mathlib.Core.List.{List, [], ◌∷◌}
 use Rattle.std.proofs.Math.IntN.{+ℤ_idr}
-use Rattle.space.specs.Vectors.{Vec3, dot, minus, plus, vec_eq}
-use Rattle.space.specs.Verdicts.{Piece, Pair, corner_count, corner_at, cube_corners, side, cube_corner, widened_at, difference_of, Below, Separate, weighted, Balance, Meeting, Supported, Touching}
-use Rattle.space.specs.Verdicts.{Penetrating, VerdictIs}
-use Rattle.space.specs.NoGap.{PlainBelow, PlainSeparate, plain_weighted, PlainBalance, PlainMeeting, PlainSupported, PlainTouching, PlainPenetrating, PlainVerdict}
+use Rattle.space.specs.Vectors.{Vec3, dot, minus, vec_eq}
+use Rattle.space.specs.Verdicts.{Piece, Pair, corner_at, side, widened_at, Below, weighted, Balance, Meeting, Supported}
+use Rattle.space.specs.Verdicts.{VerdictIs}
+use Rattle.space.specs.NoGap.{PlainBelow, plain_weighted, PlainBalance, PlainMeeting, PlainSupported, PlainVerdict}
 
 no_side : (k : ℕ) → side 0 k ≡ pos 0
 no_side zero = refl

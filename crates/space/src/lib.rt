@@ -9,7 +9,7 @@ ghost use Rattle.limits.specs.Decides.{Decides};
 ghost use Rattle.space.specs.Lists.{LengthFits, IsNear, AllNear};
 ghost use Rattle.space.specs.Ranges.{Upto, point_reach, pair_reach, shift_reach, cross_reach, sum_reach};
 
-#[derive(Drop)]
+#[derive(Clone, Copy)]
 pub struct Vec3 {
     pub x: i64,
     pub y: i64,
@@ -17,7 +17,7 @@ pub struct Vec3 {
 }
 
 // A corner of the first piece, the corner of the gap's cube that widens it, and a corner of the second, by their numbers, and the weight of their difference.
-#[derive(Drop)]
+#[derive(Clone, Copy)]
 pub struct Pair {
     pub first: usize,
     pub cube: usize,

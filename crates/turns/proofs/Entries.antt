@@ -10,7 +10,7 @@ use Rattle.limits.specs.Limits
 use Rattle.turns.specs.declared.Turn.{Turn}
 use Rattle.turns.specs.Turns.{row, turn_of}
 use Rattle.turns.specs.Table.{entry}
-use Rattle.turns.specs.Rule.{equal, equal→eq}
+use Rattle.turns.proofs.Rule.{equal, equal→eq}
 
 abbrev pub table : List Turn
 table =

@@ -1,4 +1,3 @@
 pub mod Turns
-pub mod Rule
 pub mod Range
 pub mod Table

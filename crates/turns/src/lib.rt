@@ -8,7 +8,7 @@ ghost use Rattle.ints.specs.Bounds.{Within};
 ghost use Rattle.turns.specs.Turns.{turn_of, signed_axis, named_axis, axis_number, along, turned_at, placed_at, Turnable};
 
 // A signed permutation: 1, 2 or 3 for the x, y or z that each coordinate is taken from, less than 0 where it is negated.
-#[derive(Drop)]
+#[derive(Clone, Copy)]
 pub struct Turn {
     pub x: i8,
     pub y: i8,

@@ -17,12 +17,12 @@ use Rattle.limits.specs.Limits.{weight_most, direction_reach, placed_reach, plac
 use Rattle.limits.specs.Lowest.{Lowest}
 use Rattle.space.specs.declared.Vec3.{Vec3}
 use Rattle.space.specs.declared.Pair.{Pair}
-use Rattle.space.specs.Vectors.{dot, minus, det, normal, env1, origin}
+use Rattle.space.specs.Vectors.{dot, minus, det, env1, origin}
 use Rattle.space.specs.Ranges.{Upto, point_reach, shift_reach, weight_reach}
 use Rattle.space.specs.Verdicts.{Piece, corner_at, widened_at, Below, Supported, Balance, touching, penetrating}
 use Rattle.space.specs.Lists.{LengthFits, InReach, Placed}
 use Rattle.verdict_portal.specs.declared.Three.{Three}
-use Rattle.verdict_portal.specs.Portal.{ZeroSum, depth, cramer}
+use Rattle.verdict_portal.specs.Portal.{ZeroSum, cramer}
 use Rattle.verdict_portal.specs.Sizes.{big_k, pos_k, front_under, start, start_flipped, start_shifted, plain, plain_nn}
 use Rattle.verdict_portal.specs.Round.{Setting, PortalHeld, Met}
 use Rattle.verdict_portal.specs.Exits.{sum3, w1, w2, e1}
@@ -50,11 +50,11 @@ above_zero {w} h f = ⊎_elim (λ l. absurd (clash_ℤ l h)) (⊎_elim (λ l. ab
 
 -- ---- what the walks of a frame begin with
 module _ {gap : ℕ} {A B : Piece} {f : Frame} (pa : Placed A) (pb : Placed B) (k : Framed gap A B f) where
-  pub ground : Ground A B f.widths
-  ground = record { first = pa; second = pb; box = k.box }
+  pub grounded : Ground A B f.widths
+  grounded = record { first = pa; second = pb; box = k.box }
 
   pub frame_corners : {v : Three} → v ≡ frame_places f → Corners v
-  frame_corners e = subst Corners (sym e) (record { ina = point_upto ground k.ofa; inb = point_upto ground k.ofb; inc = point_upto ground k.ofc })
+  frame_corners e = subst Corners (sym e) (record { ina = point_upto grounded k.ofa; inb = point_upto grounded k.ofb; inc = point_upto grounded k.ofc })
 
   cs : Corners (frame_places f)
   cs = frame_corners refl
@@ -207,7 +207,7 @@ weights {gap} {A} {B} {f} {e} {r} pa pb k w t h = record {
     w3 = det a b p
 
     gr : Ground A B f.widths
-    gr = ground pa pb k
+    gr = grounded pa pb k
 
     up : Upto point_reach p
     up = point_upto gr w.last
@@ -354,7 +354,7 @@ pub near_at : {gap : ℕ} {A B : Piece} {f : Frame} {e : Ended} → Placed A →
 near_at pa pb m =
     record {
       portal = record { ina = m.walked.begun.held.ina; inb = m.walked.begun.held.inb; inc = m.walked.begun.held.inc };
-      last = point_upto (ground pa pb m.framed)
+      last = point_upto (grounded pa pb m.framed)
           m.walked.last;
     }
 

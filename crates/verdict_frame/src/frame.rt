@@ -26,7 +26,7 @@ pub struct Found {
 }
 
 // Three independent points of the difference, and the half-widths of the box: the gap's cube, or what makes the difference thick where it is flat.
-#[derive(Drop)]
+#[derive(Clone, Copy)]
 pub struct Frame {
     pub widths: Vec3,
     pub a: Difference,

@@ -1,5 +1,5 @@
 -- The sizes of the walk. Every coordinate is within H = 2^18 + 2^12 = 266240, those of q within 3H. L = 2^60 and K = 2^180 are shut: what is known of them stands here.
-use Rattle.std.specs.Prelude.{◌≡◌, refl, [], ◌∷◌, ℕ, ◌+◌, ◌*◌, ◌≤◌, ◌<◌, ℤ, pos, neg_ℤ, ◌+ℤ◌, ◌*ℤ◌, ◌≤ℤ◌, ◌<ℤ◌}
+use Rattle.std.specs.Prelude.{◌≡◌, refl, [], ◌∷◌, ℕ, ℤ, pos, neg_ℤ, ◌+ℤ◌, ◌*ℤ◌, ◌≤ℤ◌, ◌<ℤ◌}
 use Rattle.std.proofs.Common.{sym, ap, subst}
 use Rattle.ints.proofs.Quote.{sides, by_ring}
 use Rattle.ints.proofs.OrderLaws.{nn_factor, pos_mul}
@@ -8,7 +8,7 @@ use Rattle.ints.proofs.Known.{known}
 use Rattle.space.specs.declared.Vec3.{Vec3}
 use Rattle.space.specs.Vectors.{dot, cross, minus, det, normal, env1, origin}
 use Rattle.space.specs.Ranges.{Upto, point_reach, shift_reach}
-use Rattle.verdict_portal.specs.Portal.{Inv, depth, reach}
+use Rattle.verdict_portal.specs.Portal.{Inv, reach}
 use Rattle.ints.specs.Sign.{Same, Under}
 use Rattle.ints.proofs.SignLaws.{under}
 use Rattle.verdict_portal.specs.Shift.{shift, ray, row, side, side_low, front, tie, k1_sign, k2_sign, k2_normal, k3_one, k3_sign, k4, k4_back, k5, k5_flipped}

@@ -12,7 +12,7 @@ ghost use Rattle.verdict_portal.specs.Rounds.{leading_of, chosen, both_of, slot_
 use space::{Vec3, cross, dot, first_of, minus, plus};
 
 // Three vectors: the points of a portal, the frame whose ray decides ties, or the edges of a portal.
-#[derive(Drop)]
+#[derive(Clone, Copy)]
 pub struct Three {
     pub a: Vec3,
     pub b: Vec3,

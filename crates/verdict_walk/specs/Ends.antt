@@ -1,7 +1,6 @@
 -- The walk itself: what it holds at each round, and what its two ends say.
 -- It begins with a portal of the set; it ends with all of the set behind the portal, or with a meeting.
 use Rattle.std.specs.Prelude.{◌≡◌, true, false, ℕ, ◌<◌}
-use Rattle.ints.specs.Bounds.{within}
 use Rattle.space.specs.declared.Vec3.{Vec3}
 use Rattle.space.specs.Vectors.{normal}
 use Rattle.space.specs.Ranges.{Upto, point_reach, normal_reach}

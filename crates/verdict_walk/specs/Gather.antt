@@ -1,7 +1,7 @@
 -- How the pairs of a meeting are gathered: one point after the other, those of no weight left out.
 -- What was gathered is a list of fair pairs whose weighted differences have a known sum. gap is how far the first piece is widened.
 use Rattle.std.specs.Prelude.{◌≡◌, ℕ, zero, suc, ◌+◌, ◌≤◌, length, set, take, get_or, ℤ, pos, ◌-ℤ◌}
-use mathlib.Core.List.{List, Memᴰ}
+use mathlib.Core.List.{Memᴰ}
 use Rattle.space.specs.declared.Vec3.{Vec3}
 use Rattle.space.specs.declared.Pair.{Pair}
 use Rattle.space.specs.Vectors.{minus, det}

@@ -13,7 +13,7 @@ use space::{Vec3, cross, dot, first_of, plus};
 use verdict_portal::{Three, round};
 
 // A portal: three points of the difference.
-#[derive(Drop)]
+#[derive(Clone, Copy)]
 pub struct Portal {
     pub a: Difference,
     pub b: Difference,
@@ -21,7 +21,7 @@ pub struct Portal {
 }
 
 // Where a walk ended: at a portal with its normal, by the last point that was looked at.
-#[derive(Drop)]
+#[derive(Clone, Copy)]
 pub struct Ended {
     pub met: bool,
     pub portal: Portal,
@@ -93,7 +93,7 @@ fn replaced(t: Portal, s: u8, p: Difference) -> Portal
 
 // From a portal of the difference, with the frame f and the shift q, to one that the whole difference is behind, or to a meeting.
 pub fn walk(q: Vec3, f: Three, from: Portal, g: Vec3, first: &[i32], second: &[i32]) -> Ended
-    requires ground { Ground first.now second.now g }
+    requires placed { Ground first.now second.now g }
     requires begun { Begun first.now second.now g q f from }
     ensures { Walked first.now second.now g q f result }
 {

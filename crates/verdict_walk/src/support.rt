@@ -11,7 +11,7 @@ ghost use Rattle.verdict_walk.specs.Points.{bit_of, cube_of, Farthest, Signed, B
 use space::{Vec3, dot, minus, opposite, plus};
 
 // A point of the difference of two pieces, with the numbers of the two corners that it comes from, and of the corner of the box.
-#[derive(Drop)]
+#[derive(Clone, Copy)]
 pub struct Difference {
     pub at: Vec3,
     pub first: usize,

@@ -1,6 +1,5 @@
 -- `parts_of_steps` meets its contract: the digits are so many of the parts that a step has (Fields), and whole steps where nothing is left over.
 -- The parts are a power of two that the code makes by a shift.
-use borrow.Author.Rules.{rules}
 use Prim.Native.Nat.{ℕ, ◌+◌, ◌-◌, ◌*◌, ◌%◌, ◌^◌, ◌<◌, ◌≤◌}
 use mathlib.Core.Bool.{Bool}
 use native.Mathlib.Omega.{arith}

@@ -1,5 +1,4 @@
 -- `scan_float` meets its contract: the pattern is read as the float that it was written for.
-use borrow.Author.Rules.{rules}
 use mathlib.Core.Path.{subst}
 use lib.Ieee.{Float}
 use Rattle.scans.specs.Scanned.{ScannedAs}

@@ -1,6 +1,5 @@
 -- `scan_pattern` meets its contract. The exponent alone answers what is no value and what is beyond the range (Fields);
 -- below, the part for the exponent does.
-use borrow.Author.Rules.{rules}
 use mathlib.Core.Logic.{inl}
 use mathlib.Core.Path.{refl}
 use Rattle.scans.proofs.Answers.{as_pattern, not_finite_lem, whole}

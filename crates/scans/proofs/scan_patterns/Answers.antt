@@ -1,5 +1,4 @@
 -- `scan_patterns` meets its contract: the lower of three numbers is the lowest refusal of the three floats together (specs/Lower).
-use borrow.Author.Rules.{rules}
 use Prim.Native.Nat.{ℕ}
 use mathlib.Core.Path.{◌≡◌, ◌∙◌, sym, ap, refl, subst}
 use mathlib.Core.Logic.{◌⊎◌}

@@ -1,5 +1,4 @@
 -- `scan_point` meets its contract: each pattern is read as the float that it was written for.
-use borrow.Author.Rules.{rules}
 use mathlib.Core.Path.{subst}
 use Rattle.scans.specs.declared.Point.{Point}
 use Rattle.scans.specs.Scanned.{PointAs}

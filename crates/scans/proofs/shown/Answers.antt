@@ -1,5 +1,4 @@
 -- `shown` meets its contract: in range the division is exact (Exact), and the two tests are of the range's two ends.
-use borrow.Author.Rules.{rules}
 use Prim.Native.Nat.{◌≤◌}
 use lib.Ieee.{of_bits}
 use lib.IntN.{nat_abs}

@@ -1,5 +1,4 @@
 -- `taken` meets its contract. The bits of a number of at most 65,536 are the number, and its negative fits.
-use borrow.Author.Rules.{rules}
 use Prim.Native.Nat.{ℕ, zero, suc, ◌≤◌}
 use mathlib.Core.Logic.{inl, inr}
 use mathlib.Core.Bool.{Bool}

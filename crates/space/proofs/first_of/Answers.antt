@@ -5,7 +5,7 @@ use mir.Syntax.{w64}
 use mir.Facts.{sfits_lit}
 use Rattle.ints.proofs.Tests.{same_bits, other_bits}
 use Rattle.ints.proofs.SignLaws.{lex_zero, lex_other}
-use Rattle.ints.specs.Bounds.{fits, worth}
+use Rattle.ints.specs.Bounds.{worth}
 use Rattle.ints.proofs.Known.{known}
 use Rattle.space.proofs.first_of.Goals as goal
 

@@ -1,15 +1,6 @@
 -- `space::in_reach`: every number before `i` is near; the loop ends at the first that is not.
-use Rattle.ints.specs.Bounds.{element}
-use borrow.Author.Count.{below_more}
-use borrow.Author.Rules.{rules}
-use mathlib.Core.Path.{refl, sym, subst}
-use Rattle.limits.specs.DecidesLaws.{holds, fails, unless_taken, unless_left}
 use Rattle.space.specs.Lists.{IsNear}
-use mir.Syntax.{w32}
-use mir.Val.{to_z, of_z}
-use mir.Facts.{to_z-of_z}
 use Prim.Native.Nat.{ℕ, ◌≤◌, ◌<◌, ◌-◌}
-use native.Mathlib.Omega.{arith}
 use lib.ListN.{length, get_or}
 use lib.IntN.{pos}
 use Rattle.space.proofs.in_reach.Given as goal

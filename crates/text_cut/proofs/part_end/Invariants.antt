@@ -1,15 +1,9 @@
 -- `text_cut::part_end` meets its contract. The invariant: the part that starts at the place ends where the first part of what is left from
 -- i on ends. The measure is what is left of the text.
-use Prim.Native.Nat.{ℕ, suc, ◌≤◌, ◌<◌, ◌+◌, ◌-◌}
-use mathlib.Core.List.{List, [], ◌∷◌}
-use mathlib.Core.Path.{◌≡◌, refl, ap, ◌∙◌}
-use borrow.Author.Rules.{rules}
-use native.Mathlib.Numerals.{add-one}
-use native.Mathlib.Omega.{arith}
-use lib.ListN.{length, get_or, drop, drop_of_length-le}
-use lib.Seq.{drop-cons}
+use Prim.Native.Nat.{◌≤◌, ◌+◌, ◌-◌}
+use mathlib.Core.Path.{◌≡◌}
+use lib.ListN.{length, drop}
 use Rattle.text_cut.specs.Cuts.{first_part}
-use Rattle.text_cut.proofs.CutLaws.{first-none, first_cut, first_more}
 use Rattle.text_cut.proofs.part_end.Given as goal
 
 abbrev pub invariant-loop-i : goal.invariant-loop-i

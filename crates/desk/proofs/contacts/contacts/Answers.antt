@@ -1,0 +1,12 @@
+-- `desk::contacts::contacts`: a desk in order is listed; else nothing is written.
+use Rattle.limits.specs.DecidesLaws.{unless_taken, unless_left}
+use Rattle.desk.specs.CommandLaws.{contacts_refused, contacts_listed}
+use borrow.Author.Rules.{rules}
+use Rattle.desk.proofs.contacts.contacts.Goals as goal
+
+pub returns-then-not-desk_in_order : goal.returns-then-not-desk_in_order
+returns-then-not-desk_in_order c = contacts_refused (unless_taken c.desk_in_order.ensures c.if-not-desk_in_order.true-raw)
+
+pub returns : goal.returns
+returns c =
+    contacts_listed (unless_left c.desk_in_order.ensures c.if-not-desk_in_order.false-raw) c.list_contacts.ensures

@@ -1,0 +1,16 @@
+-- `desk_load::copy_numbers`: the numbers passed stand in the array, and the rest is as it was.
+-- The measure is what is left of them.
+use Prim.Native.Nat.{◌-◌, ◌≤◌}
+use mathlib.Core.Path.{◌≡◌}
+use native.Mathlib.Omega.{arith}
+use lib.ListN.{length}
+use lib.Seq.{paste, paste-zero}
+use mir.Facts.{to_z-of_z}
+use Rattle.desk_load.specs.Loading.{copied, copied_all}
+use Rattle.desk_load.proofs.copy_numbers.Given as goal
+
+abbrev pub invariant-loop-i : goal.invariant-loop-i
+invariant-loop-i l = (l.i ≤ length l.numbers) × (l.shapes ≡ paste l.initial.shapes l.start l.numbers l.i)
+
+abbrev pub decreases-loop-i : goal.decreases-loop-i
+decreases-loop-i l = length l.numbers - l.i

@@ -1,0 +1,31 @@
+-- `desk_refusals::asked::empty_refusal`: the number first, and then what stands at it.
+use mathlib.Core.Path.{refl, sym, subst}
+use mathlib.Core.Logic.{inl, inr}
+use native.Mathlib.Omega.{arith}
+use lib.IntN.{ℤ}
+use mir.Facts.{to_z-of_z}
+use Rattle.limits.specs.Limits
+use Rattle.pieces.specs.Pieces.{Taken}
+use Rattle.pieces.specs.Index.{Indexed}
+use Rattle.desk_refusals.specs.Asked.{asked_refused, asked_passed}
+use borrow.Author.Rules.{rules}
+use Rattle.desk_refusals.proofs.asked.empty_refusal.Goals as goal
+
+pub returns-then-p-ge-PLACES : goal.returns-then-p-ge-PLACES
+returns-then-p-ge-PLACES c =
+    let i = subst (λ (z : ℤ). Indexed Limits.places z c.index_of-p.result) (to_z-of_z c.ranges.place) c.index_of-p.ensures in
+    asked_refused (inl (i.no c.if-p-ge-PLACES.true, refl)) (omega arith)
+
+pub returns-then-is_taken : goal.returns-then-is_taken
+returns-then-is_taken c =
+    let i = subst (λ (z : ℤ). Indexed Limits.places z c.index_of-p.result) (to_z-of_z c.ranges.place)
+    c.index_of-p.ensures in
+    let y = i.yes (omega (arith, c.if-p-ge-PLACES.false)) in
+    asked_refused (inr (λ f. f y.0, inl (subst (Taken _) y.1 (c.is_taken.ensures.yes c.if-is_taken.true), refl))) (omega arith)
+
+pub returns : goal.returns
+returns c =
+    let i = subst (λ (z : ℤ). Indexed Limits.places z c.index_of-p.result) (to_z-of_z c.ranges.place)
+    c.index_of-p.ensures in
+    let y = i.yes (omega (arith, c.if-p-ge-PLACES.false)) in
+    asked_passed (inr (λ f. f y.0, inr (λ t. c.is_taken.ensures.no c.if-is_taken.false (subst (Taken _) (sym y.1) t), refl))) y.0

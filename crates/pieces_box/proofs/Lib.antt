@@ -1,0 +1,3 @@
+pub mod KeysLaws
+pub mod ShapeLaws
+pub mod TurnedLaws
