@@ -2,10 +2,7 @@
 pub mod OffNumber
 pub mod OffNumberLaws
 pub mod Reading
-pub mod ReadingLaws
 pub mod Shortest
 pub mod PartLaws
 pub mod ShortestLaws
-pub mod ShortestOne
 pub mod Spelling
-pub mod SpellingLaws

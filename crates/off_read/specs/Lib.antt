@@ -3,4 +3,3 @@ pub mod Corners
 pub mod Passes
 pub mod NumberLaws
 pub mod LayoutLaws
-pub mod RoomLaws

@@ -1,7 +1,7 @@
 -- THERE AND BACK (document 02, W7): "Reading what was written gives the same corners; writing what was so read gives the same bytes."
 -- For every list of numbers that a shape may have: three for each of 1 to 64 corners, each within 65,536 of 0.
-use Rattle.std.specs.Prelude.{ℕ, zero, suc, ◌≤◌, ◌<◌, ◌+◌, ◌*◌, ◌/◌, ◌≡◌, refl, Bool, true, false, List, [], ◌∷◌, ◌++◌, map, ℤ, pos, nat_abs, length, get_or, take, drop}
-use Rattle.std.proofs.Common.{sym, ap, ap₂, ◌∙◌, subst, inl, inr, arith, drop_of_length-le, ext_get_or, take_at}
+use Rattle.std.specs.Prelude.{ℕ, zero, suc, ◌≤◌, ◌<◌, ◌*◌, ◌≡◌, refl, List, [], ◌∷◌, ◌++◌, map, ℤ, pos, nat_abs, length, get_or, take, drop}
+use Rattle.std.proofs.Common.{sym, ap, ap₂, ◌∙◌, subst, inr, arith, drop_of_length-le, ext_get_or, take_at}
 use Rattle.std.proofs.lemmas.List.{length-map}
 use Rattle.limits.specs.Limits
 use Rattle.limits.specs.Lowest.{Lowest}
@@ -10,13 +10,13 @@ use Rattle.space.specs.Lists.{LengthFits, InReach}
 use Rattle.text_digits.specs.Decimal.{number}
 use Rattle.text_put.specs.Print.{digits_of}
 use Rattle.text_put.specs.PrintLaws.{digits_written, written_number, digits_some}
-use Rattle.off_number.specs.OffNumber.{IsNumber, Millionths, Exact, Inexact, Beyond, InSteps}
+use Rattle.off_number.specs.OffNumber.{IsNumber, Inexact, Beyond, InSteps}
 use Rattle.off_number.specs.OffNumberLaws.{millionths_once, steps_once}
 use Rattle.off_number.specs.Shortest.{decimal_of}
-use Rattle.off_number.specs.ShortestLaws.{decimal_steps, steps_size}
-use Rattle.off_text.specs.Off.{off, words_in, word_at, EachWord, AnyWord, IsCount, IsOff, Faces, corner_count, face_count, after_counts}
-use Rattle.off_text.specs.TextLaws.{comma_free}
-use Rattle.off_read.specs.Corners.{corner_numbers, off_refusals, WordsWritten, OffReadAs}
+use Rattle.off_number.proofs.ShortestLaws.{decimal_steps, steps_size}
+use Rattle.off_text.specs.Off.{off, words_in, word_at, IsCount, IsOff, Faces, corner_count, face_count, after_counts}
+use Rattle.off_text.proofs.TextLaws.{comma_free}
+use Rattle.off_read.specs.Corners.{corner_numbers, off_refusals, OffReadAs}
 use Rattle.off_read.specs.declared.OffRead.{OffRead}
 use Rattle.off_write.specs.Written.{off_text}
 use Rattle.off_round.specs.Words.{nought, text_words_lem, text_uncut}

@@ -6,13 +6,12 @@ use Rattle.text_cut.specs.Cuts.{Uncut}
 use Rattle.text_digits.specs.Decimal.{Digits, Follows}
 use Rattle.text_put.specs.Print.{digits_of}
 use Rattle.text_put.specs.PrintLaws.{digits_written, written_number, digits_some}
-use Rattle.off_number.specs.OffNumber.{Point, signed, InSteps, NumberAs}
+use Rattle.off_number.specs.OffNumber.{Point, signed, NumberAs}
 use Rattle.off_number.specs.Shortest.{decimal_of}
-use Rattle.off_number.specs.ShortestLaws.{decimal_steps}
+use Rattle.off_number.proofs.ShortestLaws.{decimal_steps}
 use Rattle.off_text.specs.Off.{off, white, words_in}
 use Rattle.off_text.specs.OffLaws.{words_none}
 use Rattle.off_text.specs.TextLaws.{Plain, word_then}
-use Rattle.off_text.specs.Walk.{plain}
 use Rattle.off_write.specs.Written.{head_of, ended, line_of, lines_of, off_text}
 
 -- ---- a number's bytes: none is below 45, the minus

@@ -1,10 +1,9 @@
--- Texts made of words: a word and the white space behind it are the first word, and a text without the byte 44 has no comma outside comments.
+-- Texts made of words: a word and the white space behind it are the first word. That a text without the byte 44 has no comma outside comments is in proofs/TextLaws.
 -- For whoever writes such a text and wants to know what reading makes of it.
-use Rattle.std.specs.Prelude.{ℕ, ◌≤◌, ◌≡◌, Bool, true, false, cond, List, [], ◌∷◌, ◌++◌, T, eqb, length, drop}
-use Rattle.std.proofs.Common.{sym, ap, ◌∙◌, subst, inl, inr, arith}
+use Rattle.std.specs.Prelude.{ℕ, ◌≤◌, ◌≡◌, true, false, List, [], ◌∷◌, ◌++◌, T, length, drop}
+use Rattle.std.proofs.Common.{sym, ap, ◌∙◌, subst, arith}
 use Rattle.std.proofs.Math.Seq.{drop-append_seam}
-use Rattle.text_cut.specs.Cuts.{Uncut}
-use Rattle.off_text.specs.Off.{outside, inside, HasComma, CommaOutside, white, full, stretches, words_in}
+use Rattle.off_text.specs.Off.{outside, white, full, stretches, words_in}
 use Rattle.off_text.specs.OffLaws.{outside_byte, run_more, run_stop, words_white, words_run}
 use Rattle.off_text.specs.Walk.{plain, run}
 
@@ -35,24 +34,3 @@ word_then w b rest p l e =
     ∙ (λ i. r i ∷ words_in (drop (length (r i)) (w ++ b ∷ rest)))
     ∙ ap (λ (s : List ℕ). w ∷ words_in s) (drop-append_seam w (b ∷ rest))
     ∙ ap (λ (ws : List (List ℕ)). w ∷ ws) (words_behind b rest e)
-
--- ---- commas
-no_comma : (s : List ℕ) → Uncut 44 s → (CommaOutside s → ⊥) × (HasComma (inside s) → ⊥)
-unfolding outside
-no_comma [] u = (λ h. h, λ h. h)
-no_comma (b ∷ s) u = (out (eqb b 35) (no_comma s u.1), ins (eqb b 10) (no_comma s u.1))
-  where
-    here : (CommaOutside s → ⊥) → HasComma (b ∷ outside s) → ⊥
-    here f (inl e) = u.0 e
-    here f (inr h) = f h
-
-    out : (t : Bool) → (CommaOutside s → ⊥) × (HasComma (inside s) → ⊥) → HasComma (cond t (inside s) (b ∷ outside s)) → ⊥
-    out true f = f.1
-    out false f = here f.0
-
-    ins : (t : Bool) → (CommaOutside s → ⊥) × (HasComma (inside s) → ⊥) → HasComma (cond t (b ∷ outside s) (inside s)) → ⊥
-    ins true f = here f.0
-    ins false f = f.1
-
-pub comma_free : (s : List ℕ) → Uncut 44 s → CommaOutside s → ⊥
-comma_free s u = (no_comma s u).0

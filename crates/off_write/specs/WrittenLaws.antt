@@ -8,7 +8,7 @@ use Rattle.limits.specs.Limits
 use Rattle.text_put.specs.Print.{Extends, digits_of}
 use Rattle.text_put.specs.PrintLaws.{digits_most, extends_then}
 use Rattle.off_number.specs.Shortest.{part_of, decimal_of}
-use Rattle.off_number.specs.ShortestLaws.{decimal_most}
+use Rattle.off_number.proofs.ShortestLaws.{decimal_most}
 use Rattle.off_write.specs.Written.{head_of, ended, line_of, lines_of, off_text}
 
 -- "P is the lines "OFF", "1 0 0", "0 0 0"": the shape of one corner at the origin

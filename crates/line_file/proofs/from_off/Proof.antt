@@ -3,7 +3,7 @@ use borrow.Author.Rules.{rules}
 use native.Mathlib.Omega.{arith}
 use mir.Syntax.{w32}
 use mir.ValLaws.{to_z-of_z}
-use Rattle.off_read.specs.RoomLaws.{read_within}
+use Rattle.off_read.proofs.RoomLaws.{read_within}
 use Rattle.line_file.specs.RequestLaws.{text_behind}
 use Rattle.line_file.proofs.from_off.Statement.{statement}
 use Rattle.line_file.proofs.from_off.Tie as tie

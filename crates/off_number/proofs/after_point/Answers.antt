@@ -10,7 +10,7 @@ use Rattle.text_digits.specs.Decimal.{Digits, number}
 use Rattle.text_digits.specs.DecimalLaws.{leading, leading_digits, leading_all, digits_leading, number_few}
 use Rattle.off_number.specs.OffNumber.{millionth}
 use Rattle.off_number.specs.Reading.{JudgedAs, PlainAs, Pointed, judged, no_number}
-use Rattle.off_number.specs.ReadingLaws.{part_bad, part_good, part_below}
+use Rattle.off_number.proofs.ReadingLaws.{part_bad, part_good, part_below}
 use Rattle.off_number.specs.declared.Counted.{Counted}
 use Rattle.off_number.proofs.after_point.Goals as goal
 

@@ -6,7 +6,7 @@ use lib.ListN.{length}
 use Rattle.text_digits.specs.Decimal.{number}
 use Rattle.text_digits.specs.DecimalLaws.{leading, leading_le}
 use Rattle.off_number.specs.Reading.{PlainAs, judged}
-use Rattle.off_number.specs.ReadingLaws.{whole_ends, other_follows, point_follows}
+use Rattle.off_number.proofs.ReadingLaws.{whole_ends, other_follows, point_follows}
 use Rattle.off_number.proofs.after_whole.Goals as goal
 
 pub returns-then-at-text : goal.returns-then-at-text
@@ -27,9 +27,9 @@ overflow_add-at c =
 pub after_point-requires : goal.after_point-requires
 after_point-requires c =
     let within : c.args.at < length c.args.text.now = omega (arith, c.requires.place, leading_le c.args.text.now, c.if-at-text.false) in
-    point_follows c.requires (within) c.if-text-at-eq46.true
+    point_follows c.requires (within) (omega arith)
 
 pub returns : goal.returns
 returns c =
     let within : c.args.at < length c.args.text.now = omega (arith, c.requires.place, leading_le c.args.text.now, c.if-at-text.false) in
-    subst (PlainAs c.args.text.now) (sym c.no_number.ensures) (other_follows c.requires (within) c.if-text-at-eq46.false)
+    subst (PlainAs c.args.text.now) (sym c.no_number.ensures) (other_follows c.requires (within) (λ e. absurd (omega arith)))

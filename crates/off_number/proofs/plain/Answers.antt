@@ -1,7 +1,7 @@
 -- `off_number::plain` meets its contract: a number starts with a digit.
 use mathlib.Core.Path.{sym, ◌∙◌, subst}
 use Rattle.off_number.specs.Reading.{PlainAs}
-use Rattle.off_number.specs.ReadingLaws.{no_digits}
+use Rattle.off_number.proofs.ReadingLaws.{no_digits}
 use Rattle.off_number.proofs.plain.Goals as goal
 
 pub returns-then-n-eq0 : goal.returns-then-n-eq0

@@ -7,7 +7,7 @@ use lib.ListN.{length, get_or, drop, length-drop}
 use lib.Seq.{take_all}
 use Rattle.off_number.specs.OffNumber.{NumberReadAs}
 use Rattle.off_number.specs.Reading.{PlainAs}
-use Rattle.off_number.specs.ReadingLaws.{minus_answers, plain_answers, plain_most, empty_bad}
+use Rattle.off_number.proofs.ReadingLaws.{minus_answers, plain_answers, plain_most, empty_bad}
 use Rattle.off_number.proofs.read.Goals as goal
 
 -- a byte and the rest

@@ -1,7 +1,7 @@
 -- `corners` meets its contract: commas first, then the whole text, and what is left is for the room (RoomLaws).
 use native.Mathlib.Omega.{arith}
 use Rattle.off_read.specs.Passes.{LayoutRead}
-use Rattle.off_read.specs.RoomLaws.{comma_refused_lem, text_refused, text_fills, may_fill}
+use Rattle.off_read.proofs.RoomLaws.{comma_refused_lem, text_refused, text_fills, may_fill}
 use Rattle.off_read.proofs.corners.Goals as goal
 
 pub returns-then-has_comma : goal.returns-then-has_comma

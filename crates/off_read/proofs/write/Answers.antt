@@ -11,7 +11,7 @@ use Rattle.off_number.specs.OffNumber.{word_refusals, NumberReadAs}
 use Rattle.off_text.specs.FaceLaws.{word-is, words_after}
 use Rattle.off_text.specs.Off.{words_in, word_at}
 use Rattle.off_read.specs.Corners.{WordsWritten}
-use Rattle.off_read.specs.RoomLaws.{written_none, written_more}
+use Rattle.off_read.proofs.RoomLaws.{written_none, written_more}
 use Rattle.off_read.proofs.write.Goals as goal
 
 pub loop-i-init : goal.loop-i-init

@@ -1,7 +1,7 @@
 -- `line_read::files::off_corners` stays in range: as many numbers stand in the room as were counted.
 use borrow.Author.Rules.{rules}
 use native.Mathlib.Omega.{arith}
-use Rattle.off_read.specs.RoomLaws.{read_within}
+use Rattle.off_read.proofs.RoomLaws.{read_within}
 use Rattle.line_read.proofs.files.off_corners.Statement.{statement}
 use Rattle.line_read.proofs.files.off_corners.Tie as tie
 

@@ -8,8 +8,8 @@ use lib.Seq.{length-take-le}
 use Rattle.text_put.specs.Print.{Put}
 use Rattle.text_put.specs.PrintLaws.{put_none}
 use Rattle.off_number.specs.Shortest.{part_of, pointed}
-use Rattle.off_number.specs.PartLaws.{part_none}
-use Rattle.off_number.specs.SpellingLaws.{part_found, decimals_few, seven_digits}
+use Rattle.off_number.proofs.PartLaws.{part_none}
+use Rattle.off_number.proofs.SpellingLaws.{part_found, decimals_few, seven_digits}
 use Rattle.off_number.proofs.shortest.put_part.Goals as goal
 
 pub returns-then-r-eq0 : goal.returns-then-r-eq0

@@ -11,7 +11,7 @@ use mir.Facts.{to_z-of_z, to_z_pos}
 use Rattle.ints.specs.Bounds.{k_within, k_back, fits, worth}
 use Rattle.limits.specs.Limits
 use Rattle.text_put.specs.Print.{Put, PutNumber, signed}
-use Rattle.off_number.specs.SpellingLaws.{spelled}
+use Rattle.off_number.proofs.SpellingLaws.{spelled}
 use Rattle.off_number.proofs.shortest.spell.Goals as goal
 
 pub overflow_cast-steps : goal.overflow_cast-steps

@@ -10,8 +10,9 @@ use Rattle.text_put.specs.Print.{Put, PutNumber, signed, digits_of}
 use Rattle.text_put.specs.PrintLaws.{put_extends, extends_then, put_digits, digits_length}
 use Rattle.off_number.specs.OffNumber.{millionth}
 use Rattle.off_number.specs.Shortest.{step_millionths, part_of, pointed, plain_of, decimal_of}
-use Rattle.off_number.specs.PartLaws.{decimals_of, part_is_lem, part_some}
-use Rattle.off_number.specs.ShortestLaws.{decimal_most}
+use Rattle.off_number.specs.PartLaws.{decimals_of}
+use Rattle.off_number.proofs.PartLaws.{part_is_lem, part_some}
+use Rattle.off_number.proofs.ShortestLaws.{decimal_most}
 use Rattle.off_number.specs.Spelling.{Spelled}
 
 joined : (z : ℤ) (whole part : List ℕ) → (signed z [] ++ whole) ++ part ≡ signed z (whole ++ part)

@@ -12,10 +12,10 @@ use Rattle.text_put.specs.Print.{digits_of}
 use Rattle.text_put.specs.PrintLaws.{digits_written, written_number}
 use Rattle.off_number.specs.OffNumber.{Point, signed, Exact, InSteps}
 use Rattle.off_number.specs.Reading.{Plain}
-use Rattle.off_number.specs.ReadingLaws.{without_sign}
+use Rattle.off_number.proofs.ReadingLaws.{without_sign}
 use Rattle.off_number.specs.Shortest.{part_of, pointed, plain_of, decimal_of}
-use Rattle.off_number.specs.PartLaws.{part_is_lem}
-use Rattle.off_number.specs.ShortestLaws.{plain_of_lem, plain_shortest}
+use Rattle.off_number.proofs.PartLaws.{part_is_lem}
+use Rattle.off_number.proofs.ShortestLaws.{plain_of_lem, plain_shortest}
 
 -- ---- as many digits that name the same number are the same digits
 parts : (a b p x y : ℕ) → x < p → y < p → a * p + x ≡ b * p + y → (a ≡ b) × (x ≡ y)

@@ -1,0 +1,2 @@
+-- The laws that no definition of the crate rests on.
+pub mod TextLaws
