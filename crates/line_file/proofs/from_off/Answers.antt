@@ -2,7 +2,7 @@
 use native.Mathlib.Omega.{arith}
 use mir.Syntax.{w32}
 use mir.ValLaws.{to_z-of_z}
-use Rattle.off_read.specs.RoomLaws.{read_within}
+use Rattle.off_read.proofs.RoomLaws.{read_within}
 use Rattle.line_file.specs.RequestLaws.{text_behind}
 use Rattle.line_file.proofs.from_off.Goals as goal
 
