@@ -1,5 +1,4 @@
 -- `line_tell::behind_first` meets its contract: the numbers that there are, without the first.
-use borrow.Author.Rules.{rules}
 use Rattle.line_tell.specs.TellsLaws.{first-none, first_rest}
 use Rattle.line_tell.proofs.behind_first.Goals as goal
 
