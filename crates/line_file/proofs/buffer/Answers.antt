@@ -2,11 +2,7 @@
 use Prim.Native.Nat.{ℕ}
 use mathlib.Core.Path.{sym}
 use lib.ListN.{length-replicate}
-use Rattle.line_file.proofs.buffer.Statement.{statement}
-use Rattle.line_file.proofs.buffer.Tie as tie
+use Rattle.line_file.proofs.buffer.Goals as goal
 
-returns : tie.Need-returns
+pub returns : goal.returns
 returns c = sym (length-replicate {A = ℕ} 1048577 0)
-
-pub buffer-spec : {M : Type 1} → statement M
-buffer-spec = tie.close (tie.spec returns)

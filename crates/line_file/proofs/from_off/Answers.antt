@@ -1,0 +1,21 @@
+-- `line_file::from_off` meets its contract: what the reader wrote behind the first cell are the corners of the text.
+use native.Mathlib.Omega.{arith}
+use mir.Syntax.{w32}
+use mir.ValLaws.{to_z-of_z}
+use Rattle.off_read.proofs.RoomLaws.{read_within}
+use Rattle.line_file.specs.RequestLaws.{text_behind}
+use Rattle.line_file.proofs.from_off.Goals as goal
+
+pub overflow_add-result : goal.overflow_add-result
+overflow_add-result c =
+    let k = c.corners-read in
+    omega (arith, read_within k.ensures (omega arith) k.auto.room)
+
+pub returns : goal.returns
+returns c = (
+  to_z-of_z w32 c.args.shape c.ranges.shape,
+  text_behind c.args.text.now c.args.numbers.now _ _ c.corners-read.ensures (omega arith) (omega (
+    arith,
+    c.if-numbers-eq0.false,
+  )),
+)
