@@ -1,12 +1,7 @@
 pub mod Judging
 pub mod Table
-pub mod Lists
 pub mod Holding
 pub mod Standing
 pub mod Two
-pub mod Three
-pub mod Moving
 pub mod Exhibited
 pub mod Putting
-pub mod Exhibiting
-pub mod Starred

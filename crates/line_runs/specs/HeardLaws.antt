@@ -16,9 +16,9 @@ use Rattle.line_answer.specs.Answered.{Kept, marks_lent, ByLine, Answered}
 use Rattle.line_feed.specs.Served.{Serves, Served, none as no_line, more as more_lines, ServedAll}
 use Rattle.runs.specs.Log.{Entry, ◌with◌}
 use Rattle.runs.specs.Reached.{logged, Reached, started}
-use Rattle.runs.specs.Theorem.{reached_stands}
+use Rattle.runs.proofs.Theorem.{reached_stands}
 use Rattle.runs.specs.Told.{Ran, none as ran-none, more as ran-more}
-use Rattle.runs.specs.ToldLaws.{ran_reached, ran_append}
+use Rattle.runs.proofs.ToldLaws.{ran_reached, ran_append}
 use Rattle.line_runs.specs.Heard.{EntriesOf, Hears, Heard, none, more, lent_desk, StandsBy}
 
 -- what one line's command had the desk told, and what the desk did

@@ -1,5 +1,4 @@
 pub mod Afresh
-pub mod AfreshLaws
 pub mod Count
 pub mod CountLaws
 pub mod Encoded
@@ -9,6 +8,4 @@ pub mod PieceLaws
 pub mod Reached
 pub mod Standing
 pub mod Stands
-pub mod Theorem
 pub mod Told
-pub mod ToldLaws

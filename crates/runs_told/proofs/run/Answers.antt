@@ -8,7 +8,7 @@ use Rattle.desk_state.specs.Desk.{desk_of}
 use Rattle.runs.specs.Encoded.{code_numbers, used_to, told_to}
 use Rattle.runs.specs.EncodedLaws.{used_first, used_most, took_few, code_length, used_next, code_is, part_is_lem, told_few}
 use Rattle.runs.specs.Told.{Told}
-use Rattle.runs.specs.ToldLaws.{told_first, told_code, told_most, told_as, runs}
+use Rattle.runs.proofs.ToldLaws.{told_first, told_code, told_most, told_as, runs}
 use Rattle.runs_told.proofs.run.Goals as goal
 
 pub loop-i-init : goal.loop-i-init

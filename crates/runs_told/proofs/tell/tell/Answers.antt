@@ -2,7 +2,7 @@
 -- Assumes nothing.
 use mathlib.Core.Path.{ap, ◌∙◌}
 use Rattle.runs.specs.Log.{◌with◌}
-use Rattle.runs.specs.ToldLaws.{told_none, told_one, told_as}
+use Rattle.runs.proofs.ToldLaws.{told_none, told_one, told_as}
 use Rattle.runs_told.specs.declared.tell.Coded.{Coded}
 use Rattle.runs_told.specs.Entries.{entries_of}
 use borrow.Author.Rules.{rules}

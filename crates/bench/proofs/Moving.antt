@@ -14,7 +14,7 @@ use Rattle.bench.specs.Holding.{low-is, high_is}
 use Rattle.desk.specs.Commands.{moved_to}
 use Rattle.runs.specs.Afresh.{low_of, high_of}
 use Rattle.runs.specs.CountLaws.{count_same}
-use Rattle.runs.specs.Theorem.{less_more}
+use Rattle.runs.proofs.Theorem.{less_more}
 use Rattle.bench.specs.Standing.{holds_same, put_holds}
 
 -- ---- what the places hold after the move

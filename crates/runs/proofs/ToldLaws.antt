@@ -12,7 +12,7 @@ use Rattle.desk.specs.declared.Outcome.TheVariants.{Done, Refused}
 use Rattle.runs.specs.Log.{Entry, ◌with◌, empty_plan, plan_of}
 use Rattle.runs.specs.Reached.{logged, Reached, told}
 use Rattle.runs.specs.Standing.{Standing, fresh_standing}
-use Rattle.runs.specs.Theorem.{step, stands_of, reached_stands}
+use Rattle.runs.proofs.Theorem.{step, stands_of, reached_stands}
 use Rattle.runs.specs.Encoded.{number_in, commands_of, commands_in, code_at, numbers_at, told_to, told_by}
 use Rattle.runs.specs.EncodedLaws.{told_next}
 use Rattle.runs.specs.Told.{Ran, none, more, Told, accepted_of, Starts, Runs}

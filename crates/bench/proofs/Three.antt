@@ -13,7 +13,7 @@ use Rattle.rows_right.specs.Right.{RowRight}
 use Rattle.rows_right.specs.RowLaws.{right_once}
 use Rattle.bench.specs.Table.{HoldsThree, RightRows}
 use Rattle.bench.specs.Holding.{apart_row, verdict_row}
-use Rattle.bench.specs.Lists as lists
+use Rattle.bench.proofs.Lists as lists
 
 -- ---- the rows
 -- no pair but 0 1, 0 2 and 1 2 has a row

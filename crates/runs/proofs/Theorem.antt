@@ -27,7 +27,7 @@ use Rattle.desk.specs.declared.Outcome.{Outcome}
 use Rattle.desk.specs.declared.Outcome.TheVariants.{Done, Refused}
 use Rattle.runs.specs.Log.{Entry, ◌with◌, Spot, free, held, is_held, Plan, empty_plan, with_at_lem, turned, plan_by, plan_after, plan_of}
 use Rattle.runs.specs.Afresh.{corners_in, piece_of, low_of, high_of, RowOf, PairIn, Afresh}
-use Rattle.runs.specs.AfreshLaws.{afresh_once}
+use Rattle.runs.proofs.AfreshLaws.{afresh_once}
 use Rattle.runs.specs.Count.{axes_in, reported_by}
 use Rattle.runs.specs.CountLaws.{count_same}
 use Rattle.runs.specs.PieceLaws.{piece_is, low-is, high_is, row_is}

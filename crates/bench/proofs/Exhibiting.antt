@@ -26,14 +26,14 @@ use Rattle.desk.specs.declared.Outcome.TheVariants.{Done}
 use Rattle.runs.specs.Log.{Entry, plan_of}
 use Rattle.runs.specs.Reached.{Reached, started, told, ShapeIs}
 use Rattle.runs.specs.Standing.{fresh_standing}
-use Rattle.runs.specs.Theorem.{standing, accepted_changes}
+use Rattle.runs.proofs.Theorem.{standing, accepted_changes}
 use Rattle.bench.specs.Table.{B, Holds, HoldsThree, upright, new_offset, moved, RightRows}
 use Rattle.bench.specs.Holding.{verdict_row}
-use Rattle.bench.specs.Lists as lists
+use Rattle.bench.proofs.Lists as lists
 use Rattle.bench.specs.Standing.{holds_same, put_holds}
 use Rattle.bench.specs.Two.{near_by}
-use Rattle.bench.specs.Three.{right_before, right_after, listing, move_listing}
-use Rattle.bench.specs.Moving.{move_holds, move_count}
+use Rattle.bench.proofs.Three.{right_before, right_after, listing, move_listing}
+use Rattle.bench.proofs.Moving.{move_holds, move_count}
 use Rattle.bench.specs.Putting.{handled_all, desk_after, can_put}
 use Rattle.bench.specs.Exhibited.{the_box, box_at, three_boxes, the_move, Exhibited}
 

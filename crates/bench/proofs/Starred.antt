@@ -9,11 +9,11 @@ use Rattle.typed.specs.ReadingLaws.{reading_answers}
 use Rattle.pieces.specs.Pieces.{least_to, greatest_to}
 use Rattle.bench.specs.Table.{Starred}
 use Rattle.bench.specs.Holding.{not_apart}
-use Rattle.bench.specs.Lists as lists
+use Rattle.bench.proofs.Lists as lists
 use Rattle.bench.specs.Two.{mixed, apart}
-use Rattle.bench.specs.Three.{listing, move_listing}
-use Rattle.bench.specs.Moving.{move_holds, move_count}
-use Rattle.bench.specs.Exhibiting.{three_stand}
+use Rattle.bench.proofs.Three.{listing, move_listing}
+use Rattle.bench.proofs.Moving.{move_holds, move_count}
+use Rattle.bench.proofs.Exhibiting.{three_stand}
 
 pub starred : Starred
 unfolding least_to greatest_to reading leading number few? after_whole separator? judged after_separator both digits? digit? dec_le ℕ_discrete

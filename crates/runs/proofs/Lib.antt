@@ -1,0 +1,3 @@
+pub mod Theorem
+pub mod AfreshLaws
+pub mod ToldLaws
