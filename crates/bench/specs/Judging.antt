@@ -137,6 +137,7 @@ either false b t = inr t
 
 weighed_level : (A B : Piece) (d : Vec3) (i j : ℕ) (ps : List Pair) → T (is_weighed i j ps) → ((p : Pair) → Memᴰ p ps → dot d (apart_by A B p) ≡ pos 0)
     → dot d (minus (corner_at A i) (corner_at B j)) ≡ pos 0
+weighed_level A B d i j [] t h = elim t [ ]
 weighed_level A B d i j (p ∷ ps) t h = ⊎_elim
     (λ k. ap (λ n. dot d (minus (corner_at A n) (corner_at B j))) (eqb→eq i p.first (and_left (eqb i p.first) _ k))
     ∙ ap (λ n. dot d (minus (corner_at A p.first) (corner_at B n))) (eqb→eq j p.second (and_right (eqb i p.first) _ k)) ∙ h p (Memᴰ.head refl))
