@@ -1,8 +1,6 @@
 -- `line_ask::asked::each_byte` stays in range and ends. The measure is what is left of the bytes.
-use Prim.Native.Nat.{◌≤◌, ◌-◌}
-use mathlib.Core.Path.{◌≡◌, ◌∙◌}
+use mathlib.Core.Path.{◌∙◌}
 use native.Mathlib.Omega.{arith}
-use lib.ListN.{length}
 use Rattle.line_ask.proofs.asked.each_byte.Goals as goal
 
 pub loop-i-init : goal.loop-i-init

@@ -1,7 +1,6 @@
 -- `line_ask::asked::each_mark` stays in range and ends. The measure is what is left of the marks.
 use Prim.Native.Nat.{◌≤◌, ◌-◌}
-use mathlib.Core.Path.{◌≡◌, ◌∙◌}
-use native.Mathlib.Omega.{arith}
+use mathlib.Core.Path.{◌≡◌}
 use lib.ListN.{length}
 use Rattle.line_ask.proofs.asked.each_mark.Given as goal
 

@@ -1,7 +1,6 @@
 -- `line_ask::report::decimals` stays in range and ends. The measure is what is left of the digits; what is left of a millimetre is less than one.
 use Prim.Native.Nat.{◌≤◌, ◌<◌, ◌-◌}
-use mathlib.Core.Path.{◌≡◌, ◌∙◌}
-use native.Mathlib.Omega.{arith}
+use mathlib.Core.Path.{◌≡◌}
 use lib.ListN.{length}
 use Rattle.line_ask.proofs.report.decimals.Given as goal
 

@@ -1,7 +1,5 @@
 -- `line_ask::report::pieces` stays in range and ends. The measure is what is left of the places, and no more are counted than were passed.
-use Prim.Native.Nat.{◌≤◌, ◌-◌}
 use native.Mathlib.Omega.{arith}
-use Rattle.limits.specs.Limits
 use Rattle.line_ask.proofs.report.pieces.Goals as goal
 
 pub loop-place-init : goal.loop-place-init

@@ -1,5 +1,4 @@
 -- `line_read::floats::float_of` meets its contract. Without its sign, a pattern above an infinity's is not a number's, and only such a one is.
-use borrow.Author.Rules.{rules}
 use Prim.Native.Nat.{ℕ, ◌%◌, ◌<◌, ◌≤◌}
 use mathlib.Core.Path.{◌≡◌, refl, sym, ◌∙◌, subst}
 use mathlib.Core.Bool.{not}
@@ -7,8 +6,7 @@ use native.Mathlib.Omega.{arith}
 use lib.Dec.{T, lt→ltb, ltb→lt, not_T}
 use lib.Ieee.{Float, nan, inf, fin, binary32, is_nan, of_bits, nan_bits, div}
 use lib.Ieee.Bits.{nan_bits_is, nan_bits_above}
-use Rattle.line_read.proofs.floats.float_of.Statement.{statement}
-use Rattle.line_read.proofs.floats.float_of.Tie as tie
+use Rattle.line_read.proofs.floats.float_of.Goals as goal
 
 no_number_lem : (x : Float) → T (is_nan x) → nan ≡ x
 unfolding is_nan
@@ -22,15 +20,9 @@ above n l = no_number_lem (of_bits binary32 n) (subst T (sym (nan_bits_above bin
 up_to : (n : ℕ) → n % 2147483648 ≤ 2139095040 → T (not (nan_bits binary32 n))
 up_to n l = not_T (nan_bits binary32 n) (λ t. let k = ltb→lt 2139095040 (n % 2147483648) (subst T (nan_bits_above binary32 n) t) in omega arith)
 
-returns : tie.Need-returns
+pub returns-then-pattern-gt-INFINITY : goal.returns-then-pattern-gt-INFINITY
 unfolding div of_bits
-returns c = above c.before.args.pattern c.if1.true
+returns-then-pattern-gt-INFINITY c = above c.args.pattern c.if-pattern-gt-INFINITY.true
 
-float-from-bits-result : tie.Need-float-from-bits-result
-float-from-bits-result c = up_to c.before.args.pattern c.if1.false
-
-returns-2 : tie.Need-returns-2
-returns-2 c = search rules
-
-pub float-of-spec : {M : Type 1} → statement M
-float-of-spec = tie.close (tie.spec returns float-from-bits-result returns-2)
+pub float_from_bits-result : goal.float_from_bits-result
+float_from_bits-result c = up_to c.args.pattern c.if-pattern-gt-INFINITY.false

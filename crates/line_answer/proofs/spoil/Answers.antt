@@ -1,0 +1,7 @@
+-- `line_answer::spoil` meets its contract: it is answered on trial alone.
+use mathlib.Core.Path.{sym, ◌∙◌}
+use mathlib.Core.Bool.{true≢false}
+use Rattle.line_answer.proofs.spoil.Goals as goal
+
+pub returns-then-trial : goal.returns-then-trial
+returns-then-trial c = λ e. absurd (true≢false (sym c.if-trial.true ∙ e))
