@@ -17,6 +17,6 @@ returns-then-some_taken c = asked_refused (inl (inr (c.some_taken.ensures.yes c.
 
 pub returns : goal.returns
 returns c =
-    let fits : GapFits c.args.gap = ((cell_indexed c.ranges.gap c.index_of.ensures).yes (omega (arith, c.if-index_of-ge-GAPS.false))).0 in
+    let fits : GapFits c.args.gap = ((cell_indexed c.ranges.gap c.index_of.ensures).yes (omega arith)).0 in
     let g = fits in
     asked_passed (inr (⊎_elim (λ f. f g) (c.some_taken.ensures.no c.if-some_taken.false), refl)) g

@@ -64,6 +64,6 @@ returns c =
     asked_passed
     (inr (
       λ f. ⊎_elim (λ g. g i.0) (λ g. g j.0) f,
-      inr (λ f. ⊎_elim (λ g. g first_taken) (λ g. g second_taken) f, inr (λ e. c.if-i-j.false (i.1 ∙ ap nat_abs e ∙ sym j.1), refl)),
+      inr (λ f. ⊎_elim (λ g. g first_taken) (λ g. g second_taken) f, inr (λ e. let same : c.index_of-i.result ≡ c.index_of-j.result = i.1 ∙ ap nat_abs e ∙ sym j.1 in absurd (omega arith), refl)),
     ))
     (record { first_place = i.0; second_place = j.0; first_taken = first_taken; second_taken = second_taken })
