@@ -2,11 +2,7 @@
 use Prim.Native.Nat.{ℕ}
 use mathlib.Core.Path.{sym}
 use lib.ListN.{length-replicate}
-use Rattle.mudwicket.proofs.answers.Statement.{statement}
-use Rattle.mudwicket.proofs.answers.Tie as tie
+use Rattle.mudwicket.proofs.answers.Goals as goal
 
-returns : tie.Need-returns
+pub returns : goal.returns
 returns c = sym (length-replicate {A = ℕ} 1048576 0)
-
-pub answers-spec : {M : Type 1} → statement M
-answers-spec = tie.close (tie.spec returns)

@@ -1,0 +1,10 @@
+-- `mudwicket::round` meets its contract: what was read is fed, whichever bytes it is, and nothing where it cannot be read.
+use Rattle.std.specs.Prelude.{[]}
+use Rattle.line_feed.specs.ServedLaws.{feeds_none}
+use Rattle.mudwicket.proofs.round.Goals as goal
+
+pub returns-then-input-n : goal.returns-then-input-n
+returns-then-input-n o c = λ part h. record { bytes = []; feeds = feeds_none h }
+
+pub returns : goal.returns
+returns o c = λ part h. record { bytes = _; feeds = (c.feed-place.ensures part h).feeds }
