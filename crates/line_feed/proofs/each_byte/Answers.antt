@@ -1,9 +1,5 @@
 -- `line_feed::each_byte` stays in range and ends. The measure is what is left of the bytes.
-use Prim.Native.Nat.{◌≤◌, ◌-◌}
-use mathlib.Core.Path.{◌≡◌}
 use native.Mathlib.Omega.{arith}
-use lib.ListN.{length}
-use borrow.Author.Rules.{rules}
 use Rattle.line_feed.proofs.each_byte.Goals as goal
 
 pub loop-i-init : goal.loop-i-init

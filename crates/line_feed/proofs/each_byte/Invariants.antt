@@ -1,9 +1,7 @@
 -- `line_feed::each_byte` stays in range and ends. The measure is what is left of the bytes.
 use Prim.Native.Nat.{◌≤◌, ◌-◌}
 use mathlib.Core.Path.{◌≡◌}
-use native.Mathlib.Omega.{arith}
 use lib.ListN.{length}
-use borrow.Author.Rules.{rules}
 use Rattle.line_feed.proofs.each_byte.Given as goal
 
 abbrev pub invariant-loop-i : goal.invariant-loop-i
