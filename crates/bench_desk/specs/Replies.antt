@@ -1,7 +1,6 @@
 -- WHAT A PROGRAM IN ANOTHER LANGUAGE IS TOLD: an answer of the desk, or the pair question's, as two numbers.
 -- Each is the reply to an answer that the call's own record allows; no answer is allowed here that is not allowed there.
 use Rattle.std.specs.Prelude.{◌≡◌, pos}
-use Rattle.limits.specs.Limits
 use Rattle.space.specs.Verdicts.{Piece}
 use Rattle.verdict.specs.Answers.{Answers}
 use Rattle.verdict.specs.declared.Answer.{Answer}

@@ -1,6 +1,6 @@
 -- WHAT THE DESK CAN BE TOLD, as document 01 has it: one record for each command and question, between what was lent at entry, at exit, and the answer.
 -- Refused: the lowest number that applies, and nothing that was lent has changed. What several commands refuse stands in crate `desk_refusals`, Parts.antt; the laws in CommandLaws.antt.
-use Rattle.std.specs.Prelude.{◌≡◌, List, [], ◌∷◌, ◌++◌, ◌⊎◌, ℕ, ◌-◌, ◌*◌, ◌≤◌, ◌<◌, ℤ, pos, nat_abs, ◌-ℤ◌, length, drop, replicate}
+use Rattle.std.specs.Prelude.{◌≡◌, List, [], ◌∷◌, ◌++◌, ◌⊎◌, ℕ, ◌*◌, ◌≤◌, ◌<◌, ℤ, pos, nat_abs, ◌-ℤ◌, length, drop, replicate}
 use Rattle.limits.specs.Limits
 use Rattle.limits.specs.Lowest.{Refusal, Lowest, ◌when◌}
 use Rattle.rows_list.specs.Contacts as listing

@@ -1,6 +1,6 @@
 -- A move, from its tests to its record: what each part of the tests has asked, how the parts make the command's own list, and the true count.
 -- A callee sees a signed number through its bits; each law is told that what was handed on is what was handed in.
-use Rattle.std.specs.Prelude.{◌≡◌, refl, List, ◌++◌, ℕ, zero, suc, ◌+◌, ◌-◌, ◌<◌, ℤ, pos, negsuc, nat_abs}
+use Rattle.std.specs.Prelude.{◌≡◌, refl, List, ◌++◌, ℕ, zero, suc, ◌+◌, ◌-◌, ℤ, pos, negsuc, nat_abs}
 use Rattle.std.proofs.Common.{sym, ap, ◌∙◌, subst, inr, arith}
 use Rattle.std.proofs.Math.IntN.{◌-ℤ◌, -ℤ_one}
 use Rattle.limits.specs.Limits

@@ -1,12 +1,12 @@
 -- A placing and a removal, from their tests to their records: what each part of the tests has asked, and how the parts make the command's own list.
 -- A callee sees a signed number through its bits; each law is told that what was handed on is what was handed in.
 use Rattle.std.specs.Prelude.{◌≡◌, refl, List, [], ◌++◌, ℕ, ◌<◌, ℤ, nat_abs}
-use Rattle.std.proofs.Common.{sym, subst, inl, inr, arith}
+use Rattle.std.proofs.Common.{sym, subst, inr, arith}
 use Rattle.limits.specs.Limits
 use Rattle.limits.specs.Lowest.{Refusal, Lowest}
 use Rattle.limits.proofs.LowestLaws.{positive, lowest_first, lowest_then}
 use Rattle.pieces.specs.declared.placement.Placement.{Placement}
-use Rattle.pieces.specs.Pieces.{Store, Loaded, store_of}
+use Rattle.pieces.specs.Pieces.{Loaded, store_of}
 use Rattle.pieces_test.specs.OrderTest.{loaded_alone}
 use Rattle.desk_state.specs.Desk.{Desk, InOrder, OffsetFits}
 use Rattle.desk_put.specs.Handled.{MayPut, PutDown, Emptied}

@@ -1,6 +1,6 @@
 -- What becomes of the pieces when one place is put or emptied: every other piece is the same, and the store stays in order.
 -- "An accepted command stores exactly the shape or placement it names, or empties the place it names; every other shape and place stays."
-use Rattle.std.specs.Prelude.{◌≡◌, refl, List, [], ◌∷◌, ◌⊎◌, ℕ, zero, suc, ◌+◌, ◌-◌, ◌*◌, ◌≤◌, ◌<◌, length, get_or, ℤ, pos, negsuc, nat_abs, ◌+ℤ◌}
+use Rattle.std.specs.Prelude.{◌≡◌, refl, List, [], ◌∷◌, ℕ, zero, suc, ◌+◌, ◌-◌, ◌*◌, ◌≤◌, ◌<◌, length, get_or, ℤ, pos, negsuc, nat_abs, ◌+ℤ◌}
 use Rattle.std.proofs.Common.{sym, ap, ◌∙◌, subst, inl, inr, arith}
 use Rattle.std.proofs.lemmas.List.Edits.{sets}
 use Rattle.ints.specs.Bounds.{Within}
@@ -9,7 +9,7 @@ use Rattle.limits.specs.Numbered.{Numbered}
 use Rattle.ints.specs.Cases.{by-same, by_less}
 use Rattle.marks.specs.Marks.{OthersStayMarks}
 use Rattle.pieces.specs.declared.placement.Placement.{Placement}
-use Rattle.pieces.specs.Pieces.{Store, store_of, Sized, Taken, OthersStay, Loaded, PiecesInOrder, PlaceInOrder, held_in, turn_in, count_in, offset_at, axes_of, put_in, emptied_in}
+use Rattle.pieces.specs.Pieces.{Store, store_of, Sized, Taken, OthersStay, Loaded, PiecesInOrder, PlaceInOrder, held_in, turn_in, count_in, offset_at, axes_of}
 use Rattle.pieces.specs.Store.{SameAt, same_low, same_high, same_taken}
 use Rattle.pieces.specs.Storing.{sets_other, sets_at}
 use Rattle.desk_state.specs.Desk.{OffsetFits, put_at, emptied_at}

@@ -1,6 +1,6 @@
 -- The laws by which the order test decides: each test that fails is a field of `InOrder` that does not hold.
 -- The marks are decided through their keys.
-use Rattle.std.specs.Prelude.{◌≡◌, refl, List, Bool, not, true, false, T, ℤ, ℕ}
+use Rattle.std.specs.Prelude.{◌≡◌, refl, List, Bool, true, false, T, ℤ, ℕ}
 use Rattle.std.proofs.Common.{sym, ◌∙◌, subst, arith}
 use Rattle.limits.specs.Decides.{Decides}
 use Rattle.limits.specs.DecidesLaws.{fails}
@@ -13,7 +13,7 @@ use Rattle.pieces.specs.Pieces.{Store, PiecesInOrder, axes_of}
 use Rattle.pieces_box.specs.ShapeBox.{Boxed, KeysIn}
 use Rattle.pieces_box.proofs.KeysLaws.{keyed_in}
 use Rattle.desk_state.specs.Desk.{Desk, InOrder}
-use Rattle.desk_state.specs.Worked.{Worked, RestInOrder, RestDecided}
+use Rattle.desk_state.specs.Worked.{Worked, RestDecided}
 
 marks_decided : {a : Axes} {x y z marks : List ℕ} {b : Bool} → KeyedMarks a x y z → TestedMarks x y z marks b → Decides b (InPlaceMarks a marks)
 marks_decided {a} k t = record { yes = λ e. t.right a k e; no = λ e h. absurd (subst T (sym (t.whole a k h) ∙ e) tt) }

@@ -1,16 +1,16 @@
 -- Laws of writing a shape: its refusals rise, any two results are equal, how a result is drawn from what was put, and that a loaded shape of a desk in order
 -- has a corner list. The definitions stand in Writing.
-use Rattle.std.specs.Prelude.{ℕ, ◌≤◌, ◌<◌, ◌+◌, ◌*◌, ◌≡◌, refl, List, [], ◌∷◌, ◌++◌, ℤ, pos, nat_abs, length, get_or, take, drop}
+use Rattle.std.specs.Prelude.{ℕ, ◌≤◌, ◌<◌, ◌+◌, ◌*◌, ◌≡◌, refl, List, [], ◌++◌, ℤ, pos, nat_abs, length, take, drop}
 use Rattle.std.proofs.Common.{sym, ap, ◌∙◌, subst, inl, inr, ⊎_elim, arith, length-drop, ext_get_or, get_or-take, get_or-drop, length-take-le}
 use Rattle.std.proofs.Math.Decide.{ℕ_discrete}
 use Rattle.ints.specs.Bounds.{Within}
 use Rattle.ints.specs.Order.{lt-or-ge}
 use Rattle.limits.specs.Limits
 use Rattle.limits.specs.Numbered.{Numbered}
-use Rattle.limits.specs.Lowest.{Refusal, Lowest, Rising, Positive}
+use Rattle.limits.specs.Lowest.{Refusal, Lowest, Rising}
 use Rattle.limits.proofs.LowestLaws.{positive, lowest_first, lowest_then, lowest_once}
 use Rattle.space.specs.Lists.{LengthFits, InReach}
-use Rattle.pieces.specs.Pieces.{Store, store_of, corners_of, shape_value, list_to, Loaded, ShapesInOrder}
+use Rattle.pieces.specs.Pieces.{Store, store_of, corners_of, shape_value, Loaded, ShapesInOrder}
 use Rattle.pieces.specs.Store.{list_length_lem, list_at}
 use Rattle.desk_state.specs.Desk.{Desk, InOrder}
 use Rattle.desk_refusals.specs.Parts.{shape_refusals}

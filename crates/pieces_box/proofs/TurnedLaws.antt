@@ -1,6 +1,6 @@
 -- The ends of a piece are its shape's box, turned and moved: no corner is looked at again (`ends_turned`).
 -- For all 24 turns at once, from what each puts on an axis: one axis with a sign.
-use Rattle.std.specs.Prelude.{ℕ, ◌≤◌, ◌+◌, ◌*◌, ◌≡◌, refl, Bool, true, false, cond, List, eqb, ℤ, pos, neg_ℤ, nat_abs, ◌+ℤ◌, get_or}
+use Rattle.std.specs.Prelude.{ℕ, ◌≤◌, ◌+◌, ◌*◌, ◌≡◌, refl, Bool, true, false, cond, List, eqb, ℤ, pos, neg_ℤ, nat_abs, get_or}
 use Rattle.std.proofs.Common.{ap, ◌∙◌, arith}
 use Rattle.std.specs.Int.Signed.{lt_z}
 use Rattle.limits.specs.Limits
@@ -8,8 +8,7 @@ use Rattle.turns.specs.Turns.{named_axis, axis_number, along, signed_axis, turne
 use Rattle.pieces.specs.Pieces.{Store, shape_at, turn_at, offset_at, count_at, shape_value, placed_corner, least_to, greatest_to, low_at, high_at}
 use Rattle.pieces.specs.Store.{least_same, greatest_same}
 use Rattle.pieces_box.specs.declared.boxes.Ends.{Ends}
-use Rattle.pieces_box.specs.declared.boxes.ShapeBox.{ShapeBox}
-use Rattle.pieces_box.specs.ShapeBox.{on_axis, ends_to, box_to, box_of, ends_on, opposed, ends_along, moved_by}
+use Rattle.pieces_box.specs.ShapeBox.{on_axis, box_to, box_of, ends_on, opposed, ends_along, moved_by}
 use Rattle.pieces_box.specs.EndsLaws.{least_plus, greatest_plus, least_neg, greatest_neg}
 
 pub ends_eq : {a b c e : ℤ} → a ≡ b → c ≡ e → ◌≡◌ {A = Ends} (record { low = a; high = c }) (record { low = b; high = e })

@@ -1,6 +1,6 @@
 -- Laws of the order test of shapes and places: they are in order shape by shape and place by place.
 -- Each takes what the code's tests say, in their order, to the definitions of Pieces.
-use Rattle.std.specs.Prelude.{◌≡◌, refl, List, [], Bool, not, ℕ, ◌+◌, ◌-◌, ◌*◌, ◌≤◌, ◌<◌, eqb, ℤ, pos, nat_abs, length, get_or, take, drop}
+use Rattle.std.specs.Prelude.{◌≡◌, List, [], Bool, not, ℕ, ◌+◌, ◌-◌, ◌*◌, ◌≤◌, ◌<◌, eqb, ℤ, pos, nat_abs, length, get_or, take, drop}
 use Rattle.std.proofs.Common.{sym, ap, ◌∙◌, subst, arith, SFits, of_z, length-drop, get_or-take, get_or-drop, length-take-le}
 use Rattle.std.proofs.Math.Nat.{add-sub_cancel_left}
 use Rattle.std.specs.Int.{w32}

@@ -1,6 +1,6 @@
 -- WHAT THE THEOREM SAYS of a desk and its log, and of one command. Nothing in it looks at code: the functions' contracts are what `Does` says.
 -- "its standing list of pairs and verdicts equals the list worked out afresh from the pieces as the accepted commands put them"; W6: "takes the gap last set". The laws: Theorem.antt.
-use Rattle.std.specs.Prelude.{◌≡◌, List, ℕ, ◌-◌, ◌*◌, ◌≤◌, ◌<◌, nat_abs}
+use Rattle.std.specs.Prelude.{◌≡◌, List, ℕ, ◌≤◌, ◌<◌, nat_abs}
 use Rattle.limits.specs.Limits
 use Rattle.rows.specs.Rows.{row_at}
 use Rattle.desk_state.specs.Desk.{Desk, gap_of, InOrder}

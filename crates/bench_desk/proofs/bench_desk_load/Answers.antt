@@ -3,7 +3,6 @@
 use mir.Syntax.{w32}
 use mir.ValLaws.{to_z-of_z}
 use Rattle.bench_desk.specs.Handing.{loads_handed}
-use borrow.Author.Rules.{rules}
 use Rattle.bench_desk.proofs.bench_desk_load.Goals as goal
 
 pub returns : goal.returns

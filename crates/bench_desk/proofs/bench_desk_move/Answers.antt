@@ -3,7 +3,6 @@
 use mir.Syntax.{w32}
 use mir.ValLaws.{to_z-of_z}
 use Rattle.bench_desk.specs.Handing.{moves_handed}
-use borrow.Author.Rules.{rules}
 use Rattle.bench_desk.proofs.bench_desk_move.Goals as goal
 
 pub returns : goal.returns

@@ -2,7 +2,6 @@
 -- Assumes nothing.
 use mathlib.Core.Path.{sym, ap}
 use Rattle.bench_desk.specs.Replies.{reply_to}
-use borrow.Author.Rules.{rules}
 use Rattle.bench_desk.proofs.reply_to.Goals as goal
 
 pub returns-in-Done : goal.returns-in-Done

@@ -8,7 +8,6 @@ use Rattle.limits.specs.DecidesLaws.{unless_taken, unless_left}
 use Rattle.desk_state.specs.Desk.{desk_of}
 use Rattle.desk.specs.CommandLaws.{pair_refuses}
 use Rattle.desk_ask.specs.Pairing.{pair_refused, may_pair, paired}
-use borrow.Author.Rules.{rules}
 use Rattle.desk_ask.proofs.pair.Goals as goal
 
 pub returns-then-not-desk_in_order : goal.returns-then-not-desk_in_order

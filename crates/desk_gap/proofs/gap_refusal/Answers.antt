@@ -6,7 +6,6 @@ use native.Mathlib.Omega.{arith}
 use Rattle.pieces.specs.IndexLaws.{cell_indexed}
 use Rattle.verdict.specs.Answers.{GapFits}
 use Rattle.desk_refusals.specs.Asked.{asked_refused, asked_passed}
-use borrow.Author.Rules.{rules}
 use Rattle.desk_gap.proofs.gap_refusal.Goals as goal
 
 pub returns-then-index_of-ge-GAPS : goal.returns-then-index_of-ge-GAPS

@@ -1,13 +1,9 @@
 -- `desk_gap::some_taken`. The invariant: no place below this one is taken.
 -- The measure is how many places are left.
-use Prim.Native.Nat.{ℕ, ◌≤◌, ◌<◌, ◌-◌}
 use mathlib.Core.Path.{refl}
 use native.Mathlib.Omega.{arith}
 use borrow.Author.Count.{below_more}
-use borrow.Author.Rules.{rules}
-use Rattle.limits.specs.Limits
 use Rattle.limits.specs.DecidesLaws.{holds, fails}
-use Rattle.pieces.specs.Pieces.{Taken}
 use Rattle.desk_gap.specs.Setting.{none_taken}
 use Rattle.desk_gap.proofs.some_taken.Goals as goal
 

@@ -1,11 +1,8 @@
 -- `desk_load::copy_numbers`: the numbers passed stand in the array, and the rest is as it was.
 -- The measure is what is left of them.
 use mir.Syntax.{w32}
-use Prim.Native.Nat.{◌-◌, ◌≤◌}
-use mathlib.Core.Path.{◌≡◌}
 use native.Mathlib.Omega.{arith}
-use lib.ListN.{length}
-use lib.Seq.{paste, paste-zero}
+use lib.Seq.{paste-zero}
 use mir.Facts.{to_z-of_z}
 use Rattle.desk_load.specs.Loading.{copied, copied_all}
 use Rattle.desk_load.proofs.copy_numbers.Goals as goal

@@ -2,11 +2,8 @@
 -- The measure is what is left of them.
 use Prim.Native.Nat.{◌-◌, ◌≤◌}
 use mathlib.Core.Path.{◌≡◌}
-use native.Mathlib.Omega.{arith}
 use lib.ListN.{length}
-use lib.Seq.{paste, paste-zero}
-use mir.Facts.{to_z-of_z}
-use Rattle.desk_load.specs.Loading.{copied, copied_all}
+use lib.Seq.{paste}
 use Rattle.desk_load.proofs.copy_numbers.Given as goal
 
 abbrev pub invariant-loop-i : goal.invariant-loop-i

@@ -6,7 +6,6 @@ use native.Mathlib.Omega.{arith}
 use Rattle.limits.specs.DecidesLaws.{unless_taken, unless_left}
 use Rattle.space.specs.Reaching.{near_all}
 use Rattle.desk_refusals.specs.Asked.{asked_refused, asked_passed}
-use borrow.Author.Rules.{rules}
 use Rattle.desk_load.proofs.corners_refusal.Goals as goal
 
 pub returns-then-not-length_fits : goal.returns-then-not-length_fits

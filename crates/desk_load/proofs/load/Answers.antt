@@ -8,7 +8,6 @@ use Rattle.limits.specs.DecidesLaws.{unless_taken, unless_left}
 use Rattle.desk_state.specs.Desk.{desk_of}
 use Rattle.desk.specs.CommandLaws.{refuses}
 use Rattle.desk_load.specs.Loading.{load_refused, room_there, loaded}
-use borrow.Author.Rules.{rules}
 use Rattle.desk_load.proofs.load.Goals as goal
 
 pub returns-then-not-desk_in_order : goal.returns-then-not-desk_in_order

@@ -13,7 +13,6 @@ use Rattle.pieces.specs.Pieces.{Loaded, store_of}
 use Rattle.pieces.specs.IndexLaws.{cell_indexed}
 use Rattle.desk_refusals.specs.Asked.{asked_refused, asked_passed}
 use Rattle.desk_load.specs.Loading.{corner_refusals, CornersAsked}
-use borrow.Author.Rules.{rules}
 use Rattle.desk_load.proofs.load_refusal.Goals as goal
 
 pub returns-then-s-ge-SHAPES : goal.returns-then-s-ge-SHAPES

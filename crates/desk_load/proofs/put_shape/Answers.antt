@@ -8,7 +8,6 @@ use mir.Syntax.{w32}
 use mir.Val.{to_z}
 use Rattle.limits.specs.Limits
 use Rattle.desk_load.specs.Loading.{shape_stored}
-use borrow.Author.Rules.{rules}
 use Rattle.desk_load.proofs.put_shape.Goals as goal
 
 pub returns : goal.returns

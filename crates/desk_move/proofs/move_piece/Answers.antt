@@ -10,7 +10,6 @@ use Rattle.limits.specs.DecidesLaws.{unless_taken, unless_left}
 use Rattle.desk_state.specs.Desk.{desk_of}
 use Rattle.desk.specs.CommandLaws.{refuses}
 use Rattle.desk_move.specs.Moving.{move_refused, may_move, moved}
-use borrow.Author.Rules.{rules}
 use Rattle.desk_move.proofs.move_piece.Goals as goal
 
 pub returns-then-not-desk_tested : goal.returns-then-not-desk_tested

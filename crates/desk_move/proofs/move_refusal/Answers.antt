@@ -4,7 +4,6 @@ use mathlib.Core.Path.{refl}
 use mir.Syntax.{w32}
 use mir.ValLaws.{to_z-of_z}
 use Rattle.desk_move.specs.Moving.{move_by_place, move_by_rest}
-use borrow.Author.Rules.{rules}
 use Rattle.desk_move.proofs.move_refusal.Goals as goal
 
 pub returns-then-number-ne-DONE : goal.returns-then-number-ne-DONE

@@ -6,7 +6,6 @@ use mir.Syntax.{w32}
 use mir.ValLaws.{to_z-of_z}
 use Rattle.desk.specs.Commands.{moved_to}
 use Rattle.desk_move.specs.Moving.{may_be, put_be, moved_by_lem}
-use borrow.Author.Rules.{rules}
 use Rattle.desk_move.proofs.move_to.Goals as goal
 
 pub moved_to-q-requires : goal.moved_to-q-requires

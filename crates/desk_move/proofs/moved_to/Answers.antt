@@ -7,7 +7,6 @@ use Rattle.ints.specs.Bounds.{fits, worth, k_back, k_abs, k_lit_pos}
 use Rattle.ints.proofs.Known.{k_sub}
 use Rattle.pieces.specs.Pieces.{held_in}
 use Rattle.desk_move.specs.Moving.{moved_eq}
-use borrow.Author.Rules.{rules}
 use Rattle.desk_move.proofs.moved_to.Goals as goal
 
 pub overflow_sub-result : goal.overflow_sub-result

@@ -5,7 +5,6 @@ use mir.Facts as facts
 use mir.ValLaws.{to_z-of_z}
 use Rattle.desk_refusals.specs.Asked.{placement_handed}
 use Rattle.desk_place.specs.Placing.{place_by_shape, place_by_place, place_by_rest}
-use borrow.Author.Rules.{rules}
 use Rattle.desk_place.proofs.place_refusal.Goals as goal
 
 pub returns-then-number-ne-DONE : goal.returns-then-number-ne-DONE

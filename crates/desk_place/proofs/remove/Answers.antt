@@ -9,7 +9,6 @@ use Rattle.limits.specs.DecidesLaws.{unless_taken, unless_left}
 use Rattle.desk_state.specs.Desk.{desk_of}
 use Rattle.desk.specs.CommandLaws.{refuses}
 use Rattle.desk_place.specs.Placing.{remove_refused, may_remove, removed}
-use borrow.Author.Rules.{rules}
 use Rattle.desk_place.proofs.remove.Goals as goal
 
 pub returns-then-not-desk_tested : goal.returns-then-not-desk_tested

@@ -1,13 +1,11 @@
 -- `desk_state::desk_tested`: the shapes and places, and then the rest by the keys that follow from them.
 -- Where shapes and places are in order, everything that the keys ask of the boxes holds.
 use mathlib.Core.Path.{refl, sym, subst}
-use native.Mathlib.Omega.{arith}
 use lib.Dec.{T}
 use Rattle.limits.specs.DecidesLaws.{fails, unless_taken, unless_left}
 use Rattle.pieces.specs.Pieces.{store_of, PiecesInOrder}
 use Rattle.pieces_box.proofs.KeysLaws.{all_asked}
 use Rattle.desk_state.specs.OrderLaws.{worked, order_decided}
-use borrow.Author.Rules.{rules}
 use Rattle.desk_state.proofs.desk_tested.Goals as goal
 
 pub returns-then-not-pieces_in_order-clause-decided : goal.returns-then-not-pieces_in_order-clause-decided

@@ -3,7 +3,6 @@
 use borrow.Author.Tests.{not-true, not-false}
 use Rattle.limits.specs.DecidesLaws.{unless_taken, unless_left}
 use Rattle.desk_state.specs.OrderLaws.{rest_by_marks, rest_by_rows, rest_by_book}
-use borrow.Author.Rules.{rules}
 use Rattle.desk_state.proofs.rest_in_order.Goals as goal
 
 pub returns-then-not-in_place_marks : goal.returns-then-not-in_place_marks

@@ -10,8 +10,7 @@ use Rattle.ints.specs.Bounds.{element}
 use Rattle.desk.specs.declared.Command.{Command}
 use Rattle.desk.specs.contracts.Command.{the_type}
 use Rattle.desk.proofs.Command.TheLaws.{the_laws}
-use Rattle.desk_tell.specs.Telling.{does_start, does_load, does_place, does_move, does_remove, does_gap}
-use borrow.Author.Rules.{rules}
+use Rattle.desk_tell.specs.Telling.{does_load, does_place, does_move, does_remove, does_gap}
 use Rattle.desk_tell.proofs.tell.Goals as goal
 
 -- what the machine holds of a command: each of its numbers fits

@@ -2,7 +2,6 @@
 use Prim.Native.Nat.{ℕ}
 use mathlib.Core.List.{List, []}
 use mathlib.Core.Path.{◌≡◌, sym, subst}
-use borrow.Author.Rules.{rules}
 use lib.IntN.{ℤ, nat_abs}
 use mir.Facts.{to_z-of_z}
 use Rattle.limits.specs.Limits
@@ -12,7 +11,7 @@ use Rattle.pieces.specs.Pieces.{store_of, Loaded}
 use Rattle.pieces.specs.Index.{Indexed}
 use Rattle.pieces.specs.IndexLaws.{indexed_is}
 use Rattle.pieces_test.specs.OrderTest.{shapes_alone}
-use Rattle.desk_state.specs.Desk.{Desk, desk_of, InOrder}
+use Rattle.desk_state.specs.Desk.{desk_of, InOrder}
 use Rattle.off_write.specs.Written.{off_text}
 use Rattle.desk_write.specs.Writing.{numbers_of_shape, room_refusals, WrittenAs}
 use Rattle.desk_write.specs.WritingLaws.{disorder_refused, shape_refused, shape_given, shape_written}

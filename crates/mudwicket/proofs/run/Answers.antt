@@ -2,7 +2,7 @@
 use Rattle.std.specs.Prelude.{min, ◌≡◌, length}
 use Rattle.std.proofs.Common.{arith}
 use Rattle.limits.specs.Limits
-use Rattle.line_runs.specs.HeardLaws.{stands_by, fresh_reached}
+use Rattle.line_runs.proofs.HeardLaws.{stands_by, fresh_reached}
 use Rattle.mudwicket.proofs.run.Goals as goal
 
 pub returns : goal.returns

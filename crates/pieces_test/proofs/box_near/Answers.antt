@@ -2,7 +2,6 @@
 -- The first that is not refutes the box.
 use mathlib.Core.Path.{refl}
 use Rattle.limits.specs.DecidesLaws.{fails, unless_taken, unless_left}
-use borrow.Author.Rules.{rules}
 use Rattle.pieces_test.proofs.box_near.Goals as goal
 
 pub returns-then-not-ends_near : goal.returns-then-not-ends_near

@@ -12,7 +12,6 @@ use Rattle.limits.specs.Decides.{Decides}
 use Rattle.limits.specs.DecidesLaws.{fails, unless_taken, unless_left}
 use Rattle.space.specs.Lists.{IsNear}
 use Rattle.space.specs.Reaching.{near_within}
-use borrow.Author.Rules.{rules}
 use Rattle.pieces_test.proofs.ends_near.Goals as goal
 
 handed : {b : Bool} {v : ℤ} → SFits w32 v → Decides b (IsNear (pos Limits.shape_reach) (to_z w32 (of_z w32 v))) → Decides b (Within Limits.shape_reach v)

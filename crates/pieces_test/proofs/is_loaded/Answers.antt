@@ -4,7 +4,6 @@ use mathlib.Core.Path.{refl}
 use native.Mathlib.Omega.{arith}
 use Rattle.limits.specs.DecidesLaws.{fails}
 use Rattle.pieces_test.specs.OrderTest.{loaded_decided}
-use borrow.Author.Rules.{rules}
 use Rattle.pieces_test.proofs.is_loaded.Goals as goal
 
 pub returns-then-shape-ge-SHAPES : goal.returns-then-shape-ge-SHAPES

@@ -2,7 +2,6 @@
 -- Assumes nothing.
 use Rattle.space.specs.Reaching.{near_all}
 use Rattle.pieces_test.specs.OrderTest.{near_part}
-use borrow.Author.Rules.{rules}
 use Rattle.pieces_test.proofs.part_near.Goals as goal
 
 pub returns : goal.returns

@@ -3,7 +3,6 @@
 use mathlib.Core.Path.{refl}
 use Rattle.limits.specs.DecidesLaws.{fails, unless_taken, unless_left}
 use Rattle.pieces_test.specs.OrderTest.{shapes_alone, pieces_decided}
-use borrow.Author.Rules.{rules}
 use Rattle.pieces_test.proofs.pieces_in_order.Goals as goal
 
 pub returns-then-not-shapes_in_order : goal.returns-then-not-shapes_in_order

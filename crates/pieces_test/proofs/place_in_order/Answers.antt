@@ -10,7 +10,6 @@ use Rattle.limits.specs.Numbered.{Numbered}
 use Rattle.pieces.specs.IndexLaws.{cell_indexed}
 use Rattle.pieces.specs.Pieces.{store_of, held_in}
 use Rattle.pieces_test.specs.OrderTest.{loaded_alone, place_decided}
-use borrow.Author.Rules.{rules}
 use Rattle.pieces_test.proofs.place_in_order.Goals as goal
 
 pub returns-then-held-gt-SHAPES : goal.returns-then-held-gt-SHAPES

@@ -3,7 +3,6 @@
 use mathlib.Core.Path.{refl}
 use Rattle.limits.specs.DecidesLaws.{holds, unless_taken, unless_left}
 use Rattle.pieces_test.specs.OrderTest.{kept_decided}
-use borrow.Author.Rules.{rules}
 use Rattle.pieces_test.proofs.place_kept.Goals as goal
 
 pub returns-then-not-is_taken : goal.returns-then-not-is_taken

@@ -1,11 +1,9 @@
 -- `pieces_test::placed_in_order` meets its contract: the turn is asked for, then the offset.
 -- Assumes nothing.
 use mathlib.Core.Path.{refl}
-use native.Mathlib.Omega.{arith}
 use Rattle.limits.specs.DecidesLaws.{fails}
 use Rattle.pieces.specs.IndexLaws.{cell_indexed}
 use Rattle.pieces_test.specs.OrderTest.{placed_decided}
-use borrow.Author.Rules.{rules}
 use Rattle.pieces_test.proofs.placed_in_order.Goals as goal
 
 pub returns-then-turn-ge-TURNS : goal.returns-then-turn-ge-TURNS

@@ -1,14 +1,10 @@
 -- `pieces_test::places_in_order` meets its contract. The invariant: every place before is in order, or empty.
 -- The loop ends at the first that is not.
-use borrow.Author.Rules.{rules}
 use mathlib.Core.Path.{refl}
-use Prim.Native.Nat.{ℕ, ◌≤◌, ◌<◌, ◌-◌}
 use native.Mathlib.Omega.{arith}
 use borrow.Author.Count.{below_more}
-use Rattle.limits.specs.Limits
 use Rattle.limits.specs.DecidesLaws.{holds, fails, unless_taken, unless_left}
-use Rattle.pieces.specs.Pieces.{store_of}
-use Rattle.pieces_test.specs.OrderTest.{PlaceKept, one_place, every_place}
+use Rattle.pieces_test.specs.OrderTest.{one_place, every_place}
 use Rattle.pieces_test.proofs.places_in_order.Goals as goal
 
 pub loop-place-init : goal.loop-place-init

@@ -14,7 +14,6 @@ use Rattle.pieces.specs.Pieces.{store_of, count_in}
 use Rattle.pieces_box.specs.declared.boxes.ShapeBox.{ShapeBox}
 use Rattle.pieces_box.specs.ShapeBox.{NearBox}
 use Rattle.pieces_test.specs.OrderTest.{shape_none, shape_decided}
-use borrow.Author.Rules.{rules}
 use Rattle.pieces_test.proofs.shape_in_order.Goals as goal
 
 pub returns-then-count-gt-CORNERS : goal.returns-then-count-gt-CORNERS

@@ -1,15 +1,10 @@
 -- `pieces_test::shapes_in_order` meets its contract. The invariant: every shape before is in order.
 -- The loop ends at the first that is not.
-use borrow.Author.Rules.{rules}
-use mathlib.Core.Path.{refl}
 use mathlib.Core.List.{[]}
 use Prim.Native.Nat.{ℕ, ◌≤◌, ◌<◌, ◌-◌}
-use native.Mathlib.Omega.{arith}
-use borrow.Author.Count.{below_more}
 use Rattle.limits.specs.Limits
-use Rattle.limits.specs.DecidesLaws.{holds, fails, unless_taken, unless_left}
 use Rattle.pieces.specs.Pieces.{store_of}
-use Rattle.pieces_test.specs.OrderTest.{ShapeInOrder, one_shape, every_shape}
+use Rattle.pieces_test.specs.OrderTest.{ShapeInOrder}
 use Rattle.pieces_test.proofs.shapes_in_order.Given as goal
 
 abbrev pub invariant-loop-shape : goal.invariant-loop-shape

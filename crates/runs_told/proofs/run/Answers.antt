@@ -1,13 +1,11 @@
 -- `runs_told::run`: after i codes the desk is what their commands made of it, and the corner numbers that they took are used.
 -- The last code told, the theorem is the run's.
 use mathlib.Core.Path.{◌≡◌, refl, sym, ap}
-use Prim.Native.Nat.{◌+◌, ◌-◌, ◌*◌, ◌/◌, ◌≤◌}
+use Prim.Native.Nat.{◌+◌, ◌-◌, ◌*◌, ◌/◌}
 use native.Mathlib.Omega.{arith}
 use lib.ListN.{length, take, drop}
-use Rattle.desk_state.specs.Desk.{desk_of}
-use Rattle.runs.specs.Encoded.{code_numbers, used_to, told_to}
+use Rattle.runs.specs.Encoded.{code_numbers, told_to}
 use Rattle.runs.specs.EncodedLaws.{used_first, used_most, took_few, code_length, used_next, code_is, part_is_lem, told_few}
-use Rattle.runs.specs.Told.{Told}
 use Rattle.runs.proofs.ToldLaws.{told_first, told_code, told_most, told_as, runs}
 use Rattle.runs_told.proofs.run.Goals as goal
 

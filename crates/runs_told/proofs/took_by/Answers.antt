@@ -6,7 +6,6 @@ use Rattle.ints.specs.Bounds.{element}
 use Rattle.pieces.specs.Index.{Indexed}
 use Rattle.runs.specs.Encoded.{number_in}
 use Rattle.runs.specs.EncodedLaws.{took_some, took_rest}
-use borrow.Author.Rules.{rules}
 use Rattle.runs_told.proofs.took_by.Goals as goal
 
 pub returns-then-n-left : goal.returns-then-n-left

@@ -1,7 +1,6 @@
 -- `desk::contacts::contacts`: a desk in order is listed; else nothing is written.
 use Rattle.limits.specs.DecidesLaws.{unless_taken, unless_left}
 use Rattle.desk.specs.CommandLaws.{contacts_refused, contacts_listed}
-use borrow.Author.Rules.{rules}
 use Rattle.desk.proofs.contacts.contacts.Goals as goal
 
 pub returns-then-not-desk_in_order : goal.returns-then-not-desk_in_order

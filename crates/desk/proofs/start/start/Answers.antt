@@ -6,7 +6,6 @@ use lib.ListN.{replicate}
 use Prim.Native.Nat.{ℕ}
 use Rattle.limits.specs.Limits
 use Rattle.desk.specs.CommandLaws.{refuses, accepts, fresh-is}
-use borrow.Author.Rules.{rules}
 use Rattle.desk.proofs.start.start.Goals as goal
 
 pub returns-then-marks-ne-MARKS : goal.returns-then-marks-ne-MARKS

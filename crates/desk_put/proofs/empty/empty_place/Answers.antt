@@ -1,7 +1,6 @@
 -- `desk_put::empty_place`: the place is emptied first; marks, rows and tallies follow from what is left.
 -- Assumes nothing.
 use Rattle.desk_put.specs.HandledLaws.{left_asked, emptied}
-use borrow.Author.Rules.{rules}
 use Rattle.desk_put.proofs.empty.empty_place.Goals as goal
 
 pub renew_marks-requires : goal.renew_marks-requires

@@ -1,7 +1,6 @@
 -- `desk_put::put_place`: the placement is stored first; marks, rows and tallies follow from it.
 -- Assumes nothing.
 use Rattle.desk_put.specs.HandledLaws.{put_piece, put_asked, put_keys_lem, put_marks, put_down}
-use borrow.Author.Rules.{rules}
 use Rattle.desk_put.proofs.put.put_place.Goals as goal
 
 pub renew_marks-requires : goal.renew_marks-requires

@@ -1,7 +1,6 @@
 -- `desk_put::renew_marks`: the keys of the two marks on each axis, and each part by its own.
 -- What is handed on is what the boxes and the placements give.
 use Rattle.desk_put.specs.RenewLaws.{keys_are, renewed_in}
-use borrow.Author.Rules.{rules}
 use Rattle.desk_put.proofs.renew.renew_marks.Goals as goal
 
 pub returns : goal.returns

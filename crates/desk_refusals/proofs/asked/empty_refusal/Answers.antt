@@ -8,7 +8,6 @@ use Rattle.limits.specs.Limits
 use Rattle.pieces.specs.Pieces.{Taken}
 use Rattle.pieces.specs.Index.{Indexed}
 use Rattle.desk_refusals.specs.Asked.{asked_refused, asked_passed}
-use borrow.Author.Rules.{rules}
 use Rattle.desk_refusals.proofs.asked.empty_refusal.Goals as goal
 
 pub returns-then-p-ge-PLACES : goal.returns-then-p-ge-PLACES

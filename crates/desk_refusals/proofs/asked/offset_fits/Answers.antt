@@ -7,7 +7,6 @@ use Rattle.limits.specs.Limits
 use Rattle.limits.specs.Decides.{Decides}
 use Rattle.limits.specs.DecidesLaws.{fails, unless_taken, unless_left}
 use Rattle.space.specs.Reaching.{near_within}
-use borrow.Author.Rules.{rules}
 use Rattle.desk_refusals.proofs.asked.offset_fits.Goals as goal
 
 pub returns-then-not-near : goal.returns-then-not-near

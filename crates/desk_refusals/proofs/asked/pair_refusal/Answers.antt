@@ -1,19 +1,16 @@
 -- `desk_refusals::asked::pair_refusal`: both numbers, both places, and whether they are one.
 -- Each test is reached where those before it found nothing.
 use mathlib.Core.Path.{◌≡◌, refl, sym, ap, ◌∙◌, subst}
-use mathlib.Core.Logic.{inl, inr, ⊎_elim, ◌⊎◌}
+use mathlib.Core.Logic.{inl, inr, ⊎_elim}
 use native.Mathlib.Omega.{arith}
 use lib.IntN.{ℤ, pos, nat_abs}
 use Rattle.limits.specs.Limits
-use Rattle.limits.specs.DecidesLaws.{unless_taken, unless_left}
 use Rattle.limits.specs.Numbered.{Numbered}
 use Rattle.pieces.specs.Pieces.{Taken}
 use Rattle.pieces.specs.Index.{Indexed}
 use Rattle.pieces.specs.IndexLaws.{cell_indexed}
 use Rattle.desk_refusals.specs.Asked.{asked_refused, asked_passed}
 use Prim.Native.Nat.{ℕ, ◌<◌}
-use borrow.Author.Rules.{rules}
-use borrow.Author.Tests.{leb-true, leb-false}
 use Rattle.desk_refusals.proofs.asked.pair_refusal.Goals as goal
 use Rattle.desk_refusals.proofs.asked.pair_refusal.Goals.{then-not-is_taken-via-then-not-is_taken, then-not-is_taken-via-else-not-is_taken+then-not-is_taken-2}
 

@@ -8,7 +8,6 @@ use Rattle.limits.specs.Limits
 use Rattle.limits.specs.DecidesLaws.{unless_taken, unless_left}
 use Rattle.pieces.specs.Index.{Indexed}
 use Rattle.desk_refusals.specs.Asked.{asked_refused, asked_passed, offset_handed}
-use borrow.Author.Rules.{rules}
 use Rattle.desk_refusals.proofs.asked.placement_refusal.Goals as goal
 
 pub returns-then-index_of-ge-TURNS : goal.returns-then-index_of-ge-TURNS

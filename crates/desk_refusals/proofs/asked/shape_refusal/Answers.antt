@@ -9,7 +9,6 @@ use Rattle.limits.specs.DecidesLaws.{unless_taken, unless_left}
 use Rattle.pieces.specs.Pieces.{Loaded}
 use Rattle.pieces.specs.Index.{Indexed}
 use Rattle.desk_refusals.specs.Asked.{asked_refused, asked_passed}
-use borrow.Author.Rules.{rules}
 use Rattle.desk_refusals.proofs.asked.shape_refusal.Goals as goal
 
 pub returns-then-s-ge-SHAPES : goal.returns-then-s-ge-SHAPES

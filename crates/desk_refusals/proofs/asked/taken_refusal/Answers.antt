@@ -9,7 +9,6 @@ use Rattle.limits.specs.DecidesLaws.{unless_taken, unless_left}
 use Rattle.pieces.specs.Pieces.{Taken}
 use Rattle.pieces.specs.Index.{Indexed}
 use Rattle.desk_refusals.specs.Asked.{asked_refused, asked_passed}
-use borrow.Author.Rules.{rules}
 use Rattle.desk_refusals.proofs.asked.taken_refusal.Goals as goal
 
 pub returns-then-p-ge-PLACES : goal.returns-then-p-ge-PLACES

@@ -2,7 +2,6 @@
 -- Where the first does not hold the second decides.
 use mathlib.Core.Path.{sym, ◌∙◌}
 use Rattle.pieces_box.specs.ApartLaws.{apart_first, apart_second}
-use borrow.Author.Rules.{rules}
 use Rattle.pieces_box.proofs.apart.apart_on.Goals as goal
 
 pub returns-then-earlier : goal.returns-then-earlier

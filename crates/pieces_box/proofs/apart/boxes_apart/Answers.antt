@@ -3,7 +3,6 @@
 use mathlib.Core.Path.{refl, subst}
 use Rattle.pieces_box.specs.Apart.{ApartOnBy}
 use Rattle.pieces_box.specs.ApartLaws.{apart_x, apart_y, apart_z}
-use borrow.Author.Rules.{rules}
 use Rattle.pieces_box.proofs.apart.boxes_apart.Goals as goal
 
 pub returns-then-apart_on : goal.returns-then-apart_on

@@ -9,7 +9,6 @@ use Rattle.limits.specs.Numbered.{Numbered}
 use Rattle.pieces.specs.IndexLaws.{cell-index}
 use Rattle.pieces.specs.Pieces.{count_in}
 use Rattle.pieces_box.specs.ShapeBox.{box_to}
-use borrow.Author.Rules.{rules}
 use Rattle.pieces_box.proofs.boxes.box_at.Goals as goal
 
 pub returns-then-count-eq0 : goal.returns-then-count-eq0

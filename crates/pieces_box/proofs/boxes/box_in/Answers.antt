@@ -8,7 +8,6 @@ use mir.Syntax.{w32}
 use Rattle.ints.specs.Bounds.{element}
 use Rattle.pieces_box.proofs.TurnedLaws.{ends_eq}
 use Rattle.pieces_box.proofs.ShapeLaws.{box_eq}
-use borrow.Author.Rules.{rules}
 use Rattle.pieces_box.proofs.boxes.box_in.Goals as goal
 
 pub returns : goal.returns

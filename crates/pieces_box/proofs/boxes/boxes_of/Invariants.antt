@@ -1,16 +1,10 @@
 -- `pieces_box::boxes::boxes_of`: every shape before `shape` has its box in the table.
 -- The measure is how many shapes are left.
 use Prim.Native.Nat.{ℕ, ◌≤◌, ◌<◌, ◌*◌, ◌-◌}
-use mathlib.Core.Path.{◌≡◌, sym, ap, ◌∙◌, subst}
-use native.Mathlib.Omega.{arith}
-use mathlib.Core.List.{List}
-use lib.IntN.{ℤ}
+use mathlib.Core.Path.{◌≡◌}
 use lib.ListN.{length}
-use lib.Seq.{length-sets}
 use Rattle.limits.specs.Limits
-use Rattle.pieces_box.specs.ShapeBox.{box_cells, box_list, box_in, BoxAt}
-use Rattle.pieces_box.proofs.ShapeLaws.{boxes_more}
-use borrow.Author.Rules.{rules}
+use Rattle.pieces_box.specs.ShapeBox.{box_cells, box_in, BoxAt}
 use Rattle.pieces_box.proofs.boxes.boxes_of.Given as goal
 
 abbrev pub invariant-loop-shape : goal.invariant-loop-shape

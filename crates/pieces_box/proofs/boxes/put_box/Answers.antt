@@ -4,7 +4,6 @@ use mir.Syntax.{w32}
 use mir.ValLaws.{to_z-of_z}
 use Rattle.pieces_box.specs.ShapeBox.{box_cells}
 use Rattle.pieces_box.proofs.ShapeLaws.{six_stored}
-use borrow.Author.Rules.{rules}
 use Rattle.pieces_box.proofs.boxes.put_box.Goals as goal
 
 pub returns : goal.returns

@@ -3,7 +3,6 @@
 use mathlib.Core.Path.{ap₂, ◌∙◌}
 use mir.Syntax.{w32}
 use mir.ValLaws.{to_z-of_z}
-use borrow.Author.Rules.{rules}
 use Rattle.pieces.specs.Pieces.{lesser, greater}
 use Rattle.pieces_box.proofs.TurnedLaws.{ends_eq}
 use Rattle.pieces_box.proofs.boxes.stretched.Goals as goal

@@ -1,12 +1,10 @@
 -- `pieces_box::boxes::widened`: the ends on each axis with one number more.
 -- The corner's numbers are seen through their bits and turned back.
 use mathlib.Core.Path.{ap, ◌∙◌}
-use lib.IntN.{ℤ}
 use mir.Syntax.{w32}
 use mir.ValLaws.{to_z-of_z}
 use Rattle.pieces_box.specs.ShapeBox.{stretched}
 use Rattle.pieces_box.proofs.ShapeLaws.{box_eq}
-use borrow.Author.Rules.{rules}
 use Rattle.pieces_box.proofs.boxes.widened.Goals as goal
 
 pub returns : goal.returns

@@ -12,7 +12,6 @@ use lib.Signed.{lt_z}
 use mir.Syntax.{w8, w32}
 use mir.Val.{SFits, to_z, of_z}
 use mir.ValLaws.{to_z-of_z}
-use borrow.Author.Rules.{rules}
 use Rattle.limits.specs.Limits
 use Rattle.ints.specs.Bounds.{Within, fits, worth, worth_is, k_back, k_within}
 use Rattle.ints.proofs.Known.{known}

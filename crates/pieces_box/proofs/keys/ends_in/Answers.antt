@@ -8,7 +8,6 @@ use lib.IntN.{ℤ, pos, nat_abs, ◌+ℤ◌}
 use mir.Syntax.{w8, w32}
 use mir.Val.{SFits, to_z, of_z}
 use mir.ValLaws.{to_z-of_z}
-use borrow.Author.Rules.{rules}
 use Rattle.limits.specs.Limits
 use Rattle.ints.specs.Bounds.{Within, fits, worth}
 use Rattle.ints.proofs.Known.{known}

@@ -1,6 +1,6 @@
 -- `pieces_box::keys::keys_at`: the keys of the two ends, and no key where the place is empty.
 -- The ends are those of placed corners, so they come back from their bits.
-use Prim.Native.Nat.{ℕ, ◌+◌, ◌*◌, ◌/◌}
+use Prim.Native.Nat.{◌+◌, ◌*◌, ◌/◌}
 use mathlib.Core.List.{[]}
 use mathlib.Core.Path.{◌≡◌, sym, ap, ◌∙◌, subst}
 use native.Mathlib.Omega.{arith}
@@ -16,7 +16,6 @@ use Rattle.pieces.specs.Store.{taken_is, empty-is}
 use Rattle.pieces_box.specs.declared.boxes.Ends.{Ends}
 use Rattle.pieces_box.specs.ShapeBox.{ends_in}
 use Rattle.pieces_box.proofs.KeysLaws.{key_none, key_low, key_high, placed_ends}
-use borrow.Author.Rules.{rules}
 use Rattle.pieces_box.proofs.keys.keys_at.Goals as goal
 
 pub returns-then-not-is_taken-clause-low : goal.returns-then-not-is_taken-clause-low

@@ -1,13 +1,8 @@
 -- `pieces_box::keys::put_keys`: on each axis the keys of every place before `place` are the axis's.
 -- The measure is how many places are left.
-use Prim.Native.Nat.{ℕ, ◌≤◌, ◌+◌, ◌-◌}
-use mathlib.Core.Path.{sym, subst}
-use mathlib.Core.List.{List}
-use native.Mathlib.Omega.{arith}
+use Prim.Native.Nat.{◌≤◌, ◌-◌}
 use Rattle.limits.specs.Limits
 use Rattle.pieces_box.specs.ShapeBox.{KeysTo}
-use Rattle.pieces_box.proofs.KeysLaws.{keys_none, keys_more, keys_all}
-use borrow.Author.Rules.{rules}
 use Rattle.pieces_box.proofs.keys.put_keys.Given as goal
 
 abbrev pub invariant-loop-place : goal.invariant-loop-place

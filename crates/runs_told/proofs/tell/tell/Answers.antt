@@ -5,7 +5,6 @@ use Rattle.runs.specs.Log.{◌with◌}
 use Rattle.runs.proofs.ToldLaws.{told_none, told_one, told_as}
 use Rattle.runs_told.specs.declared.tell.Coded.{Coded}
 use Rattle.runs_told.specs.Entries.{entries_of}
-use borrow.Author.Rules.{rules}
 use Rattle.runs_told.proofs.tell.tell.Goals as goal
 
 pub returns-in_default : goal.returns-in_default
