@@ -31,7 +31,7 @@ def snake(word):
 
 
 def has_hump(word):
-    return word[:1].islower() and any(p[:1].islower() and re.search(r"[a-z0-9'][A-Z]", p) for p in word.split("-"))
+    return not re.fullmatch(r"b'.'", word) and word[:1].islower() and any(p[:1].islower() and re.search(r"[a-z0-9'][A-Z]", p) for p in word.split("-"))
 
 
 def plain_dash(word):
