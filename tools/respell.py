@@ -8,12 +8,12 @@ declares it; a dash behind or before a type's name stays, and so do the names of
 import glob
 import os
 import re
+import subprocess
 import sys
 
 NAME = r"[A-Za-z_\u0370-\u03ff\u2080-\u2089ℕℤ][A-Za-z0-9_'\-\u0370-\u03ff\u2080-\u2089ℕℤ*+≤≡<≢∷]*"
 TOKEN = re.compile(r"(?<![A-Za-z0-9_'\-\u0370-\u03ff\u2080-\u2089ℕℤ·])" + NAME)
 SIGNED = re.compile(r"^[ \t]*(?:(?:abbrev|unfoldable|pub|data|record) )*(" + NAME + r"(?: " + NAME + r")*) :", re.M)
-KIT = "/opt/rattle/rattle"
 
 
 def read(path):
@@ -45,8 +45,10 @@ def sources(top):
 
 
 def kit_names():
+    """The names that the toolchain's own library has: `rt doc` says where it stands."""
+    page = subprocess.run(["rt", "doc"], stdin=subprocess.DEVNULL, capture_output=True, text=True, check=True).stdout.strip()
     found = set()
-    for folder, _, files in os.walk(KIT):
+    for folder, _, files in os.walk(os.path.join(os.path.dirname(page), "rattle")):
         for f in files:
             if f.endswith(".antt"):
                 found.update(TOKEN.findall(read(os.path.join(folder, f))))
