@@ -10,7 +10,7 @@ use Rattle.desk_state.specs.Desk.{Desk, put_at, loaded_at}
 use Rattle.desk_put.specs.PutLaws.{put_same, put_shape_lem, put_turn, put_x, put_y, put_z}
 use Rattle.desk_load.specs.LoadLaws.{load_order}
 use Rattle.desk.specs.Commands.{fresh_desk}
-use Rattle.runs.specs.Log.{free, Plan, with_at_lem}
+use Rattle.runs.specs.Log.{free, Plan, with_at}
 use Rattle.runs.specs.Reached.{ShapeIs}
 use Rattle.runs.specs.Standing.{Standing, fresh_standing, load_standing, put_sized}
 use Rattle.bench.specs.Table.{Holds, upright}
@@ -49,7 +49,7 @@ pub record Loadable (numbers : List ℤ) : Type 0 where
   pub near : InReach Limits.shape_reach numbers
 
 load_more : {d : Desk} {plan : Plan} (s : ℕ) (numbers : List ℤ) → Standing d plan → s < Limits.shapes → plan.shape s ≡ [] → Loadable numbers
-    → Standing (loaded_at d s numbers) (record { shape = with_at_lem plan.shape s numbers; place = plan.place; gap = plan.gap })
+    → Standing (loaded_at d s numbers) (record { shape = with_at plan.shape s numbers; place = plan.place; gap = plan.gap })
 load_more {d} s numbers old h none w =
     let new : Loaded d.store s → ⊥ = λ l. l.some (let c = (old.holds.shapes s h).count in let e = ap length none in omega arith) in
     let is = w.fits.is in
@@ -61,7 +61,7 @@ module _ (first second : List ℤ) (f : Loadable first) (g : Loadable second) wh
   abbrev loaded : Desk
   loaded = loaded_at (loaded_at fresh_desk 0 first) 1 second
 
-  loaded_stands : Standing loaded (record { shape = with_at_lem (with_at_lem (λ _. []) 0 first) 1 second; place = λ _. free; gap = 0 })
+  loaded_stands : Standing loaded (record { shape = with_at (with_at (λ _. []) 0 first) 1 second; place = λ _. free; gap = 0 })
   loaded_stands = load_more 1 second (load_more 0 first fresh_standing (omega arith) refl f) (omega arith) refl g
 
   -- the first at 0

@@ -25,7 +25,7 @@ use Rattle.desk.specs.declared.Command.{Command}
 use Rattle.desk.specs.declared.Command.TheVariants.{Start, Load, Place, Move, Remove, Gap}
 use Rattle.desk.specs.declared.Outcome.{Outcome}
 use Rattle.desk.specs.declared.Outcome.TheVariants.{Done, Refused}
-use Rattle.runs.specs.Log.{Entry, ◌with◌, Spot, free, held, is_held, Plan, empty_plan, with_at_lem, turned, plan_by, plan_after, plan_of}
+use Rattle.runs.specs.Log.{Entry, ◌with◌, Spot, free, held, is_held, Plan, empty_plan, with_at, turned, plan_by, plan_after, plan_of}
 use Rattle.runs.specs.Afresh.{corners_in, piece_of, low_of, high_of, RowOf, PairIn, Afresh}
 use Rattle.runs.proofs.AfreshLaws.{afresh_once}
 use Rattle.runs.specs.Count.{axes_in, reported_by}
@@ -82,7 +82,7 @@ module _ {d : Desk} {plan : Plan} (old : Standing d plan) where
         taken : Taken d.store.places here
         taken = by_taken d.store.places here at (λ t. t) (λ f. absurd (a.1.1.0 f))
 
-        go : (spot : Spot) → PlaceIs d.store here spot → Standing after (record { shape = plan.shape; place = with_at_lem plan.place here (turned spot turn o); gap = plan.gap })
+        go : (spot : Spot) → PlaceIs d.store here spot → Standing after (record { shape = plan.shape; place = with_at plan.place here (turned spot turn o); gap = plan.gap })
         go free f = absurd (f taken)
         go (held q) k =
             put_standing here goes q.shape old at put

@@ -35,8 +35,8 @@ abbrev pub empty_plan : Plan
 empty_plan = record { shape = λ _. []; place = λ _. free; gap = 0 }
 
 -- one entry is another now, and every other stays
-abbrev pub with_at_lem : {A : Type 0} → (ℕ → A) → ℕ → A → ℕ → A
-with_at_lem f n v k = cond (eqb k n) v (f k)
+abbrev pub with_at : {A : Type 0} → (ℕ → A) → ℕ → A → ℕ → A
+with_at f n v k = cond (eqb k n) v (f k)
 
 -- a move keeps the shape
 abbrev pub turned : Spot → ℤ → Offset → Spot
@@ -46,10 +46,10 @@ turned (held q) turn o = held (record { shape = q.shape; turn = turn; x = o.x; y
 -- "An accepted setting stores its gap and changes nothing else; only another setting or a fresh start alters it."
 abbrev pub plan_by : Command → List ℤ → Plan → Plan
 plan_by Start numbers plan = empty_plan
-plan_by (Load shape) numbers plan = record { shape = with_at_lem plan.shape (nat_abs shape) numbers; place = plan.place; gap = plan.gap }
-plan_by (Place place q) numbers plan = record { shape = plan.shape; place = with_at_lem plan.place (nat_abs place) (held q); gap = plan.gap }
-plan_by (Move place turn o) numbers plan = record { shape = plan.shape; place = with_at_lem plan.place (nat_abs place) (turned (plan.place (nat_abs place)) turn o); gap = plan.gap }
-plan_by (Remove place) numbers plan = record { shape = plan.shape; place = with_at_lem plan.place (nat_abs place) free; gap = plan.gap }
+plan_by (Load shape) numbers plan = record { shape = with_at plan.shape (nat_abs shape) numbers; place = plan.place; gap = plan.gap }
+plan_by (Place place q) numbers plan = record { shape = plan.shape; place = with_at plan.place (nat_abs place) (held q); gap = plan.gap }
+plan_by (Move place turn o) numbers plan = record { shape = plan.shape; place = with_at plan.place (nat_abs place) (turned (plan.place (nat_abs place)) turn o); gap = plan.gap }
+plan_by (Remove place) numbers plan = record { shape = plan.shape; place = with_at plan.place (nat_abs place) free; gap = plan.gap }
 plan_by (Gap gap) numbers plan = record { shape = plan.shape; place = plan.place; gap = nat_abs gap }
 
 abbrev pub plan_after : Entry → Plan → Plan

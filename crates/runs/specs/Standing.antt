@@ -23,7 +23,7 @@ use Rattle.desk_put.specs.PutLaws.{put_same, put_others, put_turn, put_x, put_y,
 use Rattle.desk_load.specs.LoadLaws.{load_same, load_count, load_number, load_count_here, load_number_here}
 use Rattle.desk.specs.Commands.{fresh_desk, SomeTaken}
 use Rattle.desk.specs.CommandLaws.{fresh_order, fresh_gap, gap_set_order, gap_set}
-use Rattle.runs.specs.Log.{Spot, free, held, Plan, empty_plan, with_at_lem}
+use Rattle.runs.specs.Log.{Spot, free, held, Plan, empty_plan, with_at}
 use Rattle.runs.specs.Reached.{ShapeIs, PlaceIs, HoldsPlan}
 
 -- ---- what an accepted command has been asked: none of its refusals applies
@@ -47,7 +47,7 @@ pub few_of : (n : ℕ) → ((LengthFits n → ⊥) → ⊥) → n ≤ Limits.sha
 few_of n f = by_less Limits.shape_numbers n (λ h. absurd (f (λ k. omega (arith, k.is, k.most)))) (λ h. h)
 
 -- ---- one entry of a plan
-pub at_each : {A : Type 0} (P : ℕ → A → Type 0) (f : ℕ → A) (n : ℕ) (v : A) → P n v → ((k : ℕ) → (k ≡ n → ⊥) → P k (f k)) → (k : ℕ) → P k (with_at_lem f n v k)
+pub at_each : {A : Type 0} (P : ℕ → A → Type 0) (f : ℕ → A) (n : ℕ) (v : A) → P n v → ((k : ℕ) → (k ≡ n → ⊥) → P k (f k)) → (k : ℕ) → P k (with_at f n v k)
 at_each P f n v here there k =
     by-same k n
     (λ e. subst (λ b. P k (cond b v (f k))) (sym (eq-eqb k n e)) (subst (λ m. P m v) (sym e) here))
@@ -97,7 +97,7 @@ module _ {d : Desk} {plan : Plan} (s : ℕ) (numbers : List ℤ) (old : Standing
   abbrev loads : Store
   loads = store_of (loaded_in d.store.shapes s numbers) d.store.places
 
-  load_shapes : (i : ℕ) → i < Limits.shapes → ShapeIs loads i (with_at_lem plan.shape s numbers i)
+  load_shapes : (i : ℕ) → i < Limits.shapes → ShapeIs loads i (with_at plan.shape s numbers i)
   load_shapes = at_each (λ i l. i < Limits.shapes → ShapeIs loads i l) plan.shape s numbers
       (λ _. record {
         count = ap (λ n. 3 * n) (load_count_here d.store s numbers old.order.pieces new few old.size h) ∙ whole;
@@ -112,7 +112,7 @@ module _ {d : Desk} {plan : Plan} (s : ℕ) (numbers : List ℤ) (old : Standing
         each = λ k g. load_number d.store s numbers old.order.pieces new few i k f (omega arith) ∙ was.each k g;
       })
 
-  pub load_standing : InOrder (loaded_at d s numbers) → Standing (loaded_at d s numbers) (record { shape = with_at_lem plan.shape s numbers; place = plan.place; gap = plan.gap })
+  pub load_standing : InOrder (loaded_at d s numbers) → Standing (loaded_at d s numbers) (record { shape = with_at plan.shape s numbers; place = plan.place; gap = plan.gap })
   load_standing o = record {
     order = o;
     size = record { shapes = length-sets d.store.shapes (s * Limits.shape_cells) (pos (length numbers / 3) ∷ numbers) ∙ old.size.shapes; places = old.size.places };
@@ -162,7 +162,7 @@ module _ {d e : Desk} {plan : Plan} (p : ℕ) (q : Placement) (s : ℤ) (old : S
     on_z_lem = put_z d.store p q old.size h;
   }
 
-  put_holds : HoldsPlan puts (record { shape = plan.shape; place = with_at_lem plan.place p spot; gap = plan.gap })
+  put_holds : HoldsPlan puts (record { shape = plan.shape; place = with_at plan.place p spot; gap = plan.gap })
   put_holds = record {
     shapes = λ i l. record { count = (old.holds.shapes i l).count; each = (old.holds.shapes i l).each };
     places = at_each (PlaceIs puts) plan.place p spot put_piece (λ i f. place_same (plan.place i) (put_same d.store p q i f) (old.holds.places i));
@@ -180,11 +180,11 @@ module _ {d e : Desk} {plan : Plan} (p : ℕ) (q : Placement) (s : ℤ) (old : S
       subst (RowRight (gap_of d) puts low high) (sym (handled_other rows low high k.first.place k.second.place a b))
       (right_same (gap_of d) (put_same d.store p q low a) (put_same d.store p q high b) (old.right low high (pair_stayed (put_others d.store p q) a b k)))))
 
-  pub put_standing : Standing e (record { shape = plan.shape; place = with_at_lem plan.place p spot; gap = plan.gap })
+  pub put_standing : Standing e (record { shape = plan.shape; place = with_at plan.place p spot; gap = plan.gap })
   put_standing = record {
     order = put.order;
     size = subst Sized (sym put.store) (put_sized p q old.size);
-    holds = subst (λ (S : Store). HoldsPlan S (record { shape = plan.shape; place = with_at_lem plan.place p spot; gap = plan.gap })) (sym put.store) put_holds;
+    holds = subst (λ (S : Store). HoldsPlan S (record { shape = plan.shape; place = with_at plan.place p spot; gap = plan.gap })) (sym put.store) put_holds;
     gap = put.gap ∙ old.gap;
     right = right_at_lem e put.store put.gap (put_right (subst (λ (S : Store). Handled (RowRight (gap_of d) S) S.places p Limits.places d.rows e.rows) put.store put.rows));
   }
@@ -194,7 +194,7 @@ module _ {d e : Desk} {plan : Plan} (p : ℕ) (old : Standing d plan) (h : p < L
   abbrev empties : Store
   empties = emptied_at d.store p
 
-  empty_holds : HoldsPlan empties (record { shape = plan.shape; place = with_at_lem plan.place p free; gap = plan.gap })
+  empty_holds : HoldsPlan empties (record { shape = plan.shape; place = with_at plan.place p free; gap = plan.gap })
   empty_holds = record {
     shapes = λ i l. record { count = (old.holds.shapes i l).count; each = (old.holds.shapes i l).each };
     places = at_each (PlaceIs empties) plan.place p free (empty_gone d.store p old.size h) (λ q f. place_same (plan.place q) (empty_same d.store p q f) (old.holds.places q));
@@ -208,11 +208,11 @@ module _ {d e : Desk} {plan : Plan} (p : ℕ) (old : Standing d plan) (h : p < L
       subst (RowRight (gap_of d) empties low high) (sym (put.rows.kept low high q.first.place q.second.place a b))
       (right_same (gap_of d) (empty_same d.store p low a) (empty_same d.store p high b) (old.right low high (pair_stayed (empty_others d.store p) a b q)))
 
-  pub empty_standing : Standing e (record { shape = plan.shape; place = with_at_lem plan.place p free; gap = plan.gap })
+  pub empty_standing : Standing e (record { shape = plan.shape; place = with_at plan.place p free; gap = plan.gap })
   empty_standing = record {
     order = put.order;
     size = subst Sized (sym put.store) (record { shapes = old.size.shapes; places = length-set d.store.places (Limits.place_cells * p) (pos 0) ∙ old.size.places });
-    holds = subst (λ (S : Store). HoldsPlan S (record { shape = plan.shape; place = with_at_lem plan.place p free; gap = plan.gap })) (sym put.store) empty_holds;
+    holds = subst (λ (S : Store). HoldsPlan S (record { shape = plan.shape; place = with_at plan.place p free; gap = plan.gap })) (sym put.store) empty_holds;
     gap = put.gap ∙ old.gap;
     right = right_at_lem e put.store put.gap empty_right;
   }
