@@ -1,6 +1,6 @@
 -- The proof of what is exhibited: a desk is started, B is loaded and placed three times, and place 2 is moved; each desk is the one before it with one piece put down.
 -- The rows that are put are those of the table, so the listings are the table's.
-use Rattle.std.specs.Prelude.{◌≡◌, refl, List, [], ◌∷◌, ℕ, ◌+◌, ◌*◌, ◌≤◌, ◌<◌, ℤ, pos, nat_abs, ◌-ℤ◌, length, set}
+use Rattle.std.specs.Prelude.{◌≡◌, refl, List, [], ◌∷◌, ℕ, ◌+◌, ◌*◌, ◌≤◌, ◌<◌, ℤ, pos, nat_abs, ◌-ℤ◌, length, set, Ok}
 use Rattle.std.proofs.Common.{sym, ap, ◌∙◌, subst, inr, arith, length-set}
 use Rattle.std.proofs.lemmas.List.{length-replicate}
 use Rattle.limits.specs.Limits
@@ -22,7 +22,6 @@ use Rattle.desk_put.specs.PutLaws.{put_same}
 use Rattle.desk_load.specs.LoadLaws.{load_order}
 use Rattle.desk.specs.Commands.{fresh_desk, place_refusals, moved_to, Does}
 use Rattle.desk.specs.CommandLaws.{accepts, fresh_order}
-use Rattle.desk.specs.declared.Outcome.TheVariants.{Done}
 use Rattle.runs.specs.Log.{Entry, plan_of}
 use Rattle.runs.specs.Reached.{Reached, started, told, ShapeIs}
 use Rattle.runs.specs.Standing.{fresh_standing}
@@ -53,7 +52,7 @@ numbered k h f = f (record { natural = refl; below = h })
 
 -- ---- started and loaded
 fresh_reached : Reached fresh_desk []
-fresh_reached = started {before = fresh_desk} (Done 0) (accepts (inr (λ f. f (length-replicate {A = ℕ} Limits.marks Limits.no_mark), refl)) (refl, refl)) refl
+fresh_reached = started {before = fresh_desk} (Ok 0) (accepts (inr (λ f. f (length-replicate {A = ℕ} Limits.marks Limits.no_mark), refl)) (refl, refl)) refl
 
 none_loaded : Loaded fresh_desk.store 0 → ⊥
 none_loaded l = l.some (ap nat_abs (filled_at {A = ℤ} (pos 0) Limits.shapes_length 0))
@@ -69,7 +68,7 @@ box_near_lem = near_by Limits.shape_reach B tt
 
 loaded_desk : Shelf (loaded_at fresh_desk 0 B) (the_box ∷ []) 0
 loaded_desk =
-    let r = told {after = loaded_at fresh_desk 0 B} the_box (Done 0) fresh_reached (accepts
+    let r = told {after = loaded_at fresh_desk 0 B} the_box (Ok 0) fresh_reached (accepts
     (inr (λ f. f fresh_order, inr (numbered 0 (omega arith), inr (λ f. f box_fits, inr (λ f. f box_near_lem, inr (none_loaded, refl))))))
     (refl, load_order fresh_order fresh_standing.size (omega arith) none_loaded box_fits box_near_lem, refl)) in
     record { reached = r; plain = refl; shape = (standing r).holds.shapes 0 (omega arith); others = λ q t. absurd (none_taken q t) }
@@ -127,7 +126,7 @@ places : {d : Desk} {log : List Entry} {n : ℕ} (k : Shelf d log n) (x : ℕ) (
     → Handled (RowRight 0 (put_at d.store n (upright (pos 0) x 0 0))) (put_at d.store n (upright (pos 0) x 0 0)).places n n d.rows rows
     → Shelf (desk_after d n (upright (pos 0) x 0 0) rows) (box_at n x ∷ log) (n + 1)
 places {d} {n = n} k x h near w = record {
-  reached = told (box_at n x) (Done 0) k.reached (accepts asked (puts_down k n x h (omega arith) near w, refl));
+  reached = told (box_at n x) (Ok 0) k.reached (accepts asked (puts_down k n x h (omega arith) near w, refl));
   plain = k.plain;
   shape = record { count = k.shape.count; each = k.shape.each };
   others = up_to k n x h (omega arith) near;
@@ -216,7 +215,7 @@ module _ {d : Desk} (k : Shelf d three_boxes 3) (t : HoldsThree d.store 0 64 32)
       let v = row_with k 2 128 (omega arith) (omega arith) (omega arith) (length-set d.rows (cell 0 2) 0 ∙ rows_size k) (omega arith) u.place-1.taken r.third w in
       subst (λ (q : Placement). PutDown d 2 q (desk_after d 2 q rows_moved)) goes_is (puts_down k 2 128 (omega arith) (omega arith) (omega arith) v)
 
-  next_moved : (e : Desk) × Does the_move.command the_move.numbers d e (Done 3) × HoldsThree e.store 0 64 128
+  next_moved : (e : Desk) × Does the_move.command the_move.numbers d e (Ok 3) × HoldsThree e.store 0 64 128
   next_moved = (
     desk_after d 2 goes rows_moved,
     accepts
@@ -241,11 +240,11 @@ right_rows {d} h e = record {
 three : (d : Desk) × Shelf d three_boxes 3 × HoldsThree d.store 0 64 32
 three = let a = one in let b = next_two a.1 a.2 in next_three b.1 b.2 b.3
 
-after_three : (d : Desk) × Does the_move.command the_move.numbers three.0 d (Done 3) × HoldsThree d.store 0 64 128
+after_three : (d : Desk) × Does the_move.command the_move.numbers three.0 d (Ok 3) × HoldsThree d.store 0 64 128
 after_three = next_moved three.1 three.2
 
 reached_after : Reached after_three.0 (the_move ∷ three_boxes)
-reached_after = told the_move (Done 3) three.1.reached after_three.1
+reached_after = told the_move (Ok 3) three.1.reached after_three.1
 
 pub exhibited : Exhibited
 exhibited = record {
@@ -254,7 +253,7 @@ exhibited = record {
   reached = three.1.reached;
   listing = listing three.0.store three.0.rows three.2 (right_rows three.1.reached refl);
   moves = after_three.1;
-  counted = sym ((accepted_changes the_move (Done 3) after_three.1 refl).counted three_boxes three.1.reached);
+  counted = sym ((accepted_changes the_move (Ok 3) after_three.1 refl).counted three_boxes three.1.reached);
   move_reached = reached_after;
   move_listing = move_listing after_three.0.store after_three.0.rows after_three.2 (right_rows reached_after refl);
 }

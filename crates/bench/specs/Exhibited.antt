@@ -1,11 +1,10 @@
 -- A RUN EXHIBITED, so that the theorem over runs (`runs` Theorem.antt) speaks of something: document 01's three boxes and the move, told to a desk.
 -- To be read beside the document, "Bench pieces"; the proof is `exhibited` in Exhibiting.antt.
-use Rattle.std.specs.Prelude.{◌≡◌, List, [], ◌∷◌, ℕ, pos}
+use Rattle.std.specs.Prelude.{◌≡◌, List, [], ◌∷◌, ℕ, pos, Ok}
 use Rattle.rows_list.specs.Contacts.{contacts}
 use Rattle.desk_state.specs.Desk.{Desk}
 use Rattle.desk.specs.Commands.{Does}
 use Rattle.desk.specs.declared.Command.TheVariants.{Load, Place, Move}
-use Rattle.desk.specs.declared.Outcome.TheVariants.{Done}
 use Rattle.runs.specs.Log.{Entry, ◌with◌, plan_of}
 use Rattle.runs.specs.Count.{reported}
 use Rattle.runs.specs.Reached.{Reached}
@@ -35,7 +34,7 @@ pub record Exhibited : Type 0 where
   -- "The whole listing is 0 1 2, 0 2 3, 1 2 3 (nine bytes)."
   pub listing : contacts before.rows ≡ 0 ∷ 1 ∷ 2 ∷ 0 ∷ 2 ∷ 3 ∷ 1 ∷ 2 ∷ 3 ∷ []
   -- "count 3, listing 0 1 2, 1 2 2."; the count is that of the plan's pieces alone
-  pub moves : Does the_move.command the_move.numbers before after (Done 3)
+  pub moves : Does the_move.command the_move.numbers before after (Ok 3)
   pub counted : reported the_move (plan_of three_boxes) ≡ 3
   pub move_reached : Reached after (the_move ∷ three_boxes)
   pub move_listing : contacts after.rows ≡ 0 ∷ 1 ∷ 2 ∷ 1 ∷ 2 ∷ 2 ∷ []

@@ -2,10 +2,9 @@
 -- To be read beside the document; the proof is `starred` in Starred.antt. Verdicts: 1 separate, 2 touching, 3 penetrating; a row may also be 0, apart by boxes. The gap is 0 (W6).
 use Rattle.std.specs.Prelude.{◌≡◌, List, [], ◌∷◌, ◌++◌, ℕ, ◌+◌, ◌*◌, ◌<◌, ℤ, pos, negsuc, ◌+ℤ◌, length, get_or}
 use Rattle.space.specs.Verdicts.{Below, VerdictIs, separate, touching, penetrating}
-use Rattle.typed.specs.TypedLength.{LengthAnswers}
-use Rattle.typed.specs.declared.Typed.TheVariants.{Steps, Refused}
+use Rattle.typed.specs.TypedLength.{Steps, Refused, LengthAnswers}
 use Rattle.verdict.specs.Answers as pair
-use Rattle.verdict.specs.declared.Answer.{Answer}
+use Rattle.verdict.specs.Answers.{Answer}
 use Rattle.blanks.specs.Blanks.{corner, box_corners, piece_corners}
 use Rattle.marks.specs.Marks.{changed_marks}
 use Rattle.rows.specs.Rows.{PairOf, row_at, RowsInOrder}

@@ -7,8 +7,7 @@ use Rattle.limits.specs.Lowest.{Lowest}
 use Rattle.space.specs.Lists.{LengthFits, InReach, Placed}
 use Rattle.space.specs.Verdicts.{VerdictIs}
 use Rattle.space.proofs.ExclusionLaws.{verdict_once}
-use Rattle.verdict.specs.Answers.{Answers, refusals}
-use Rattle.verdict.specs.declared.Answer.{Answer}
+use Rattle.verdict.specs.Answers.{Answer, Answers, refusals}
 use Rattle.turns.specs.Table.{and_left, and_right, below, number}
 use Rattle.bench.specs.Table.{placed, Between}
 use Rattle.bench.specs.Holding.{placed_length, is_apart, is_mixed, apart_row, verdict_row}

@@ -2,10 +2,8 @@
 -- Each is the reply to an answer that the call's own record allows; no answer is allowed here that is not allowed there.
 use Rattle.std.specs.Prelude.{◌≡◌, pos}
 use Rattle.space.specs.Verdicts.{Piece}
-use Rattle.verdict.specs.Answers.{Answers}
-use Rattle.verdict.specs.declared.Answer.{Answer}
-use Rattle.desk.specs.declared.Outcome.{Outcome}
-use Rattle.desk.specs.Commands.{number_of, outcome_count}
+use Rattle.verdict.specs.Answers.{Answer, Answers}
+use Rattle.desk.specs.Commands.{Outcome, number_of, outcome_count}
 use Rattle.bench_desk.specs.declared.Reply.{Reply}
 use Rattle.bench_desk.specs.declared.VerdictReply.{VerdictReply}
 

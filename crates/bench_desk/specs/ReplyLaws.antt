@@ -5,7 +5,7 @@ use Rattle.std.proofs.Common.{sym, ap, ◌∙◌}
 use Rattle.space.specs.Verdicts.{Piece}
 use Rattle.verdict.specs.Answers.{OneAnswer}
 use Rattle.verdict.specs.AnswerLaws.{answers_once}
-use Rattle.desk.specs.declared.Outcome.{Outcome}
+use Rattle.desk.specs.Commands.{Outcome}
 use Rattle.bench_desk.specs.declared.Reply.{Reply}
 use Rattle.bench_desk.specs.declared.VerdictReply.{VerdictReply}
 use Rattle.bench_desk.specs.Replies.{reply_to, Replies, verdict_of, RepliesVerdict}

@@ -5,21 +5,24 @@
 ghost use Rattle.std.specs.Prelude.{◌≡◌};
 ghost use Rattle.limits.specs.Decides.{Decides};
 ghost use Rattle.desk_state.specs.Desk.{desk_of, InOrder};
-ghost use Rattle.desk.specs.declared.Outcome.{Outcome};
-ghost use Rattle.desk.specs.Commands.{Started, Loads, Places, Moves, Removed, SetsGap};
+ghost use Rattle.desk.specs.Commands.{Outcome, Started, Loads, Places, Moves, Removed, SetsGap};
 ghost use Rattle.bench_desk.specs.Replies.{reply_to, Replies, RepliesVerdict};
 
-use desk::Outcome;
 use desk::start::start;
 use desk_gap::set_gap;
 use desk_load::load;
 use desk_move::move_piece;
 use desk_place::{place, remove};
-use desk_state::desk_in_order;
+use desk_state::{LentBook, LentDesk, LentPlaces, LentShapes, SeenDesk};
+use limits::Refusal;
 use pieces::placement::{Offset, Placement};
 use verdict::pair_of_lists;
 
+// The number of what is done (document 01).
+const DONE: u8 = 0;
+
 // The answer to a command: a refusal's number, or 0 and the count.
+// Stays: C reads the number and the count as two fields.
 #[repr(C)]
 #[derive(Clone, Copy)]
 pub struct Reply {
@@ -28,6 +31,7 @@ pub struct Reply {
 }
 
 // The answer to the pair question: a refusal's number, or 0 and the verdict.
+// Stays: C reads the number and the verdict as two fields.
 #[repr(C)]
 #[derive(Clone, Copy)]
 pub struct VerdictReply {
@@ -35,21 +39,22 @@ pub struct VerdictReply {
     pub verdict: u8,
 }
 
-fn reply_to(o: Outcome) -> Reply
-    ensures { result ≡ reply_to o }
+fn reply_to(answer: Result<u32, Refusal>) -> Reply
+    ensures { result ≡ reply_to answer }
 {
-    match o {
-        Outcome::Done(count) => Reply {
-            number: limits::DONE,
-            count: count,
+    match answer {
+        Ok(count) => Reply {
+            number: DONE,
+            count,
         },
-        Outcome::Refused(number) => Reply {
-            number: number,
+        Err(refusal) => Reply {
+            number: refusal.number(),
             count: 0,
         },
     }
 }
 
+// Stays: C lends the five arrays one by one, here and to each function below.
 #[unsafe(no_mangle)]
 pub extern "C" fn bench_desk_start(
     shapes: &mut [i32; limits::SHAPES_LENGTH],
@@ -62,7 +67,14 @@ pub extern "C" fn bench_desk_start(
         (desk_of shapes.old places.old rows.old book.old marks.old)
         (desk_of shapes.new places.new rows.new book.new marks.new) o) result }
 {
-    reply_to(start(shapes, places, rows, book, marks))
+    let mut desk = LentDesk {
+        shapes,
+        places,
+        rows,
+        book,
+        marks,
+    };
+    reply_to(start(&mut desk))
 }
 
 #[unsafe(no_mangle)]
@@ -79,7 +91,14 @@ pub extern "C" fn bench_desk_load(
         (desk_of shapes.old places.now rows.now book.now marks.now) shape numbers.now
         (desk_of shapes.new places.now rows.now book.now marks.now) o) result }
 {
-    reply_to(load(shapes, places, rows, book, marks, shape, numbers))
+    let mut desk = LentShapes {
+        shapes,
+        places,
+        rows,
+        book,
+        marks,
+    };
+    reply_to(load(&mut desk, shape, numbers))
 }
 
 #[unsafe(no_mangle)]
@@ -102,13 +121,20 @@ pub extern "C" fn bench_desk_place(
         (desk_of shapes.now places.new rows.new book.new marks.new) o) result }
 {
     let q = Placement {
-        shape: shape,
-        turn: turn,
-        x: x,
-        y: y,
-        z: z,
+        shape,
+        turn,
+        x,
+        y,
+        z,
     };
-    reply_to(place(shapes, places, rows, book, marks, number, q))
+    let mut desk = LentPlaces {
+        shapes,
+        places,
+        rows,
+        book,
+        marks,
+    };
+    reply_to(place(&mut desk, number, q))
 }
 
 #[unsafe(no_mangle)]
@@ -129,8 +155,15 @@ pub extern "C" fn bench_desk_move(
         number turn (record { x = x; y = y; z = z })
         (desk_of shapes.now places.new rows.new book.new marks.new) o) result }
 {
-    let o = Offset { x: x, y: y, z: z };
-    reply_to(move_piece(shapes, places, rows, book, marks, number, turn, o))
+    let o = Offset { x, y, z };
+    let mut desk = LentPlaces {
+        shapes,
+        places,
+        rows,
+        book,
+        marks,
+    };
+    reply_to(move_piece(&mut desk, number, turn, o))
 }
 
 #[unsafe(no_mangle)]
@@ -146,7 +179,14 @@ pub extern "C" fn bench_desk_remove(
         (desk_of shapes.now places.old rows.old book.old marks.old) number
         (desk_of shapes.now places.new rows.new book.new marks.new) o) result }
 {
-    reply_to(remove(shapes, places, rows, book, marks, number))
+    let mut desk = LentPlaces {
+        shapes,
+        places,
+        rows,
+        book,
+        marks,
+    };
+    reply_to(remove(&mut desk, number))
 }
 
 #[unsafe(no_mangle)]
@@ -162,7 +202,14 @@ pub extern "C" fn bench_desk_set_gap(
         (desk_of shapes.now places.now rows.now book.old marks.now) gap
         (desk_of shapes.now places.now rows.now book.new marks.now) o) result }
 {
-    reply_to(set_gap(shapes, places, rows, book, marks, gap))
+    let mut desk = LentBook {
+        shapes,
+        places,
+        rows,
+        book,
+        marks,
+    };
+    reply_to(set_gap(&mut desk, gap))
 }
 
 #[unsafe(no_mangle)]
@@ -175,7 +222,14 @@ pub extern "C" fn bench_desk_in_order(
 ) -> bool
     ensures { Decides result (InOrder (desk_of shapes.now places.now rows.now book.now marks.now)) }
 {
-    desk_in_order(shapes, places, rows, book, marks)
+    let desk = SeenDesk {
+        shapes,
+        places,
+        rows,
+        book,
+        marks,
+    };
+    desk.in_order()
 }
 
 // With no gap between the pieces.
@@ -183,11 +237,14 @@ pub extern "C" fn bench_desk_in_order(
 pub extern "C" fn bench_desk_pair_of_lists(first: &[i32], second: &[i32]) -> VerdictReply
     ensures { RepliesVerdict first.now second.now result }
 {
-    let a = pair_of_lists(0, first, second);
-    let number = a.number;
-    let verdict = a.verdict;
-    VerdictReply {
-        number: number,
-        verdict: verdict,
+    match pair_of_lists(0, first, second) {
+        Ok(v) => VerdictReply {
+            number: limits::DONE,
+            verdict: v.number(),
+        },
+        Err(refusal) => VerdictReply {
+            number: refusal.number(),
+            verdict: 0,
+        },
     }
 }

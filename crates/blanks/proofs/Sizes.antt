@@ -14,12 +14,12 @@ use lib.Ieee.Fits.{up_pos, down_pos}
 use Rattle.limits.specs.Limits
 use Rattle.limits.specs.Lowest.{Lowest}
 use Rattle.scans.specs.Floats.{InSteps, refusals}
-use Rattle.scans.specs.Scanned.{One, PointAs}
+use Rattle.scans.specs.Scanned.{One, Scanned, PointAs}
 use Rattle.scans.specs.Signs.{sign_of, size_of}
 use Rattle.scans.specs.TakenWhen.{none_applies}
-use Rattle.scans.specs.declared.Scanned.{Scanned}
+use Rattle.scans.specs.declared.Point.{Point}
 use Rattle.blanks.specs.Blanks.{ZeroOrLess, size_refusals}
-use Rattle.blanks.specs.Chosen.{all_positive, point, SizesAs}
+use Rattle.blanks.specs.Chosen.{all_positive, SizesAs}
 
 -- ---- one size
 -- a float of steps above 0 is not zero or less
@@ -60,32 +60,32 @@ one_of true false c e = inr (inl refl)
 one_of false b c e = inl refl
 
 -- ---- three sizes
-module _ {w d h : Float} {r : Scanned} (p : PointAs (point w d h) r) where
-  pub refused : (r.number ≡ 0 → ⊥) → SizesAs w d h r
-  refused f = record { number = longer p.number; steps = p.steps }
+module _ {p : Point} {r : Scanned} (h : PointAs p r) where
+  pub refused : (r.number ≡ 0 → ⊥) → SizesAs p r
+  refused f = record { number = longer h.number; steps = h.steps }
     where
-      longer : Lowest (refusals (λ C. One C (point w d h))) r.number → Lowest (size_refusals (point w d h)) r.number
+      longer : Lowest (refusals (λ C. One C p)) r.number → Lowest (size_refusals p) r.number
       longer (inl a) = inl a
       longer (inr (a, inl b)) = inr (a, inl b)
       longer (inr (a, inr (b, inl c))) = inr (a, inr (b, inl c))
       longer (inr (a, inr (b, inr c))) = absurd (f c.1)
 
   module _ (e : r.number ≡ 0) where
-    pub all_above : all_positive r.x r.y r.z ≡ true → SizesAs w d h r
+    pub all_above : all_positive r.x r.y r.z ≡ true → SizesAs p r
     all_above t =
-        let v = p.steps e in
+        let v = h.steps e in
         let a = three (lt_z (pos 0) r.x) (lt_z (pos 0) r.y) (lt_z (pos 0) r.z) t in
-        let n = none_applies (λ C. One C (point w d h)) p.number e in
-        let none : One ZeroOrLess (point w d h) → ⊥ =
-        ⊎_elim (above w r.x v.0 a.0) (⊎_elim (above d r.y v.1 a.1) (above h r.z v.2 a.2)) in
-        record { number = inr (n.0, inr (n.1, inr (n.2, inr (none, e)))); steps = p.steps }
+        let n = none_applies (λ C. One C p) h.number e in
+        let none : One ZeroOrLess p → ⊥ =
+        ⊎_elim (above p.x r.x v.0 a.0) (⊎_elim (above p.y r.y v.1 a.1) (above p.z r.z v.2 a.2)) in
+        record { number = inr (n.0, inr (n.1, inr (n.2, inr (none, e)))); steps = h.steps }
 
-    pub one_not : all_positive r.x r.y r.z ≡ false → SizesAs w d h (record { number = Limits.size_zero; x = pos 0; y = pos 0; z = pos 0 })
+    pub one_not : all_positive r.x r.y r.z ≡ false → SizesAs p (record { number = Limits.size_zero; x = pos 0; y = pos 0; z = pos 0 })
     one_not t =
-        let v = p.steps e in
-        let n = none_applies (λ C. One C (point w d h)) p.number e in
-        let one : One ZeroOrLess (point w d h) = ⊎_elim
-        (λ a. inl (not_above w r.x v.0 a))
-        (⊎_elim (λ a. inr (inl (not_above d r.y v.1 a))) (λ a. inr (inr (not_above h r.z v.2 a))))
+        let v = h.steps e in
+        let n = none_applies (λ C. One C p) h.number e in
+        let one : One ZeroOrLess p = ⊎_elim
+        (λ a. inl (not_above p.x r.x v.0 a))
+        (⊎_elim (λ a. inr (inl (not_above p.y r.y v.1 a))) (λ a. inr (inr (not_above p.z r.z v.2 a))))
         (one_of (lt_z (pos 0) r.x) (lt_z (pos 0) r.y) (lt_z (pos 0) r.z) t) in
         record { number = inr (n.0, inr (n.1, inr (n.2, inl (one, refl)))); steps = λ z. absurd (omega arith) }

@@ -1,15 +1,16 @@
 -- Blanks (document 01, "Lengths that arrive as text or as floats"): "A blank is a box, a wedge or a corner piece, each carrying width, depth and height
 -- as 32-bit floats", its corners in order, and what writing them to lent room may answer and leave there.
-use Rattle.std.specs.Prelude.{ℕ, ◌<◌, ◌≡◌, List, [], ◌∷◌, ◌++◌, ℤ, pos, ◌≤ℤ◌, length, drop, Float}
+use Rattle.std.specs.Prelude.{ℕ, ◌<◌, ◌≡◌, List, [], ◌∷◌, ◌++◌, ℤ, pos, ◌≤ℤ◌, length, drop, Float, Result, Ok, Err}
 use Rattle.std.specs.Float.{nan, inf, fin}
 use Rattle.limits.specs.Limits
-use Rattle.limits.specs.Lowest.{Refusal, Lowest, ◌when◌}
+use Rattle.limits.specs.Lowest.{Rule, Lowest, ◌when◌}
+use Rattle.limits.specs.Refusals.{number_of}
+use Rattle.limits.specs.declared.Refusal.{Refusal}
 use Rattle.scans.specs.Floats.{with_sign, InSteps, NotFinite, NotWhole, Beyond}
 use Rattle.scans.specs.Scanned.{One}
 use Rattle.scans.specs.declared.Point.{Point}
 use Rattle.blanks.specs.declared.Blank.{Blank}
 use Rattle.blanks.specs.declared.Blank.TheVariants.{Box, Wedge, Corner}
-use Rattle.blanks.specs.declared.Written.{Written}
 
 -- "width, depth and height": the sizes along x, y and z
 abbrev pub sizes : Blank → Point
@@ -60,7 +61,7 @@ ZeroOrLess (inf s) = ⊥
 ZeroOrLess (fin s m e) = with_sign s m ≤ℤ zero
 
 -- the refusals of the sizes alone
-abbrev pub size_refusals : Point → List Refusal
+abbrev pub size_refusals : Point → List Rule
 size_refusals p =
     Limits.not_finite when One NotFinite p
     ∷ Limits.not_whole when One NotWhole p
@@ -78,6 +79,15 @@ pub record Filled (p : Point) (n : ℕ) (corners : ℤ → ℤ → ℤ → List 
   pub high : InSteps p.z height
   pub room : after ≡ corners width depth height ++ drop n before
   pub counted : count ≡ n
+
+-- what writing a blank gives: 0 and how many numbers were written, or the number of the refusal and 0
+pub record Written : Type 0 where
+  pub number : ℕ
+  pub count : ℕ
+
+abbrev pub written_of : Result ℕ Refusal → Written
+written_of (Ok n) = record { number = Limits.done; count = n }
+written_of (Err r) = record { number = number_of r; count = 0 }
 
 -- what writing a blank with the sizes p, n numbers for its corners, may answer and leave; 13: "room shorter than what must be written"
 pub record WrittenAs (p : Point) (n : ℕ) (corners : ℤ → ℤ → ℤ → List ℤ) (before after : List ℤ) (r : Written) : Type 0 where

@@ -7,8 +7,7 @@ use Rattle.limits.specs.Lowest.{◌when◌}
 use Rattle.limits.proofs.LowestLaws.{lowest_once}
 use Rattle.scans.specs.Once.{zero_or, steps_once}
 use Rattle.scans.specs.declared.Point.{Point}
-use Rattle.blanks.specs.Blanks.{size_refusals, Filled, WrittenAs}
-use Rattle.blanks.specs.declared.Written.{Written}
+use Rattle.blanks.specs.Blanks.{size_refusals, Filled, Written, WrittenAs}
 
 module _ {p : Point} {n : ℕ} {corners : ℤ → ℤ → ℤ → List ℤ} {before after last : List ℤ} where
   filled_once : {count more : ℕ} → Filled p n corners before after count → Filled p n corners before last more → (after ≡ last) × (count ≡ more)

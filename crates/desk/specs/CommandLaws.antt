@@ -1,10 +1,14 @@
 -- The laws of the commands: what each way out of a function has kept or made, that a started desk is in order, and that an answer is the only one.
 -- Witnesses apart, two exits and answers that a command's record allows for the same entry are equal, to the last cell.
-use Rattle.std.specs.Prelude.{◌≡◌, refl, List, ℕ, ◌+◌, ◌*◌, ◌≤◌, ◌<◌, ℤ, pos, nat_abs, replicate}
+use Rattle.std.specs.Prelude.{◌≡◌, refl, List, ℕ, ◌+◌, ◌*◌, ◌≤◌, ◌<◌, ℤ, pos, nat_abs, replicate, Result, Ok, Err}
 use Rattle.std.proofs.Common.{sym, ap, ◌∙◌, subst, inl, inr, arith}
 use Rattle.limits.specs.Limits
-use Rattle.limits.specs.Lowest.{Refusal, Lowest}
+use Rattle.limits.specs.Lowest.{Rule, Lowest}
+use Rattle.limits.specs.Refusals as refusals
+use Rattle.limits.specs.declared.Refusal.{Refusal}
 use Rattle.limits.proofs.LowestLaws.{lowest_once}
+use Rattle.limits.proofs.RefusalLaws.{number_once, number_some}
+use Rattle.limits.specs.declared.Refusal.TheVariants.{Disorder}
 use Rattle.limits.specs.Numbered.{Numbered}
 use Rattle.rows.specs.Rows.{Handled}
 use Rattle.rows_list.specs.Contacts.{Lists}
@@ -12,42 +16,40 @@ use Rattle.rows_tally.specs.Tallies.{BookInOrder}
 use Rattle.rows_tally.specs.Counting.{filled_at, zero_at, book_once, book_started, gap_order, gap_is}
 use Rattle.rows.specs.Changes.{cleared_once}
 use Rattle.rows.proofs.Handling.{rows_started, handled_once}
-use Rattle.rows_list.specs.declared.Listed.{Listed}
-use Rattle.rows_list.specs.declared.Listed.TheVariants.{Rows, Refused}
 use Rattle.marks.specs.Marks.{InPlaceMarks, changed_marks}
 use Rattle.marks.proofs.Buffer.{none_in_place_marks, one_buffer}
 use Rattle.pieces.specs.declared.placement.Placement.{Placement}
 use Rattle.pieces.specs.declared.placement.Offset.{Offset}
 use Rattle.pieces.specs.Pieces.{Store, count_in, held_in, axes_of, piece_at}
 use Rattle.pieces.specs.Store.{ranged}
-use Rattle.verdict.specs.Answers.{nothing, Carries, OneAnswer}
+use Rattle.verdict.specs.declared.witnessed.Verdict.{Verdict}
+use Rattle.verdict.specs.Answers.{Answer, nothing, answer_with, Carries, OneAnswer}
+use Rattle.verdict.specs.Judged.{not_refused}
 use Rattle.verdict.specs.AnswerLaws.{one_answer}
-use Rattle.verdict.specs.declared.Answer.{Answer}
 use Rattle.desk_put.specs.Handled.{Emptied, PutDown}
 use Rattle.rows_right.specs.RowLaws.{carries_at, right_once}
 use Rattle.desk_state.specs.Desk.{Desk, desk_of, gap_of, InOrder, gap_at}
 use Rattle.rows_right.specs.Right.{RowRight}
-use Rattle.desk.specs.Commands.{Commanded, fresh_desk, start_refusals, Started, load_refusals, Loads, place_refusals, Places, move_refusals}
+use Rattle.desk.specs.Commands.{Outcome, Commanded, fresh_desk, start_refusals, Started, load_refusals, Loads, place_refusals, Places, move_refusals}
 use Rattle.desk.specs.Commands.{MovedBy, Moves, remove_refusals, Removed, gap_refusals, SetsGap, contact_refusals, ListsContacts, pair_refusals, Pairs, Does}
 use Rattle.desk.specs.declared.Command.{Command}
 use Rattle.desk.specs.declared.Command.TheVariants.{Start, Load, Place, Move, Remove, Gap}
-use Rattle.desk.specs.declared.Outcome.{Outcome}
-use Rattle.desk.specs.declared.Outcome.TheVariants as outcome
 
 -- ---- every command
-pub refuses : {l : List Refusal} {Accepted : ℕ → Type 0} {d : Desk} {n : ℕ} → Lowest l n → 0 < n → Commanded l Accepted d d (outcome.Refused n)
-refuses h k = record { refusal = h; kept = λ _. refl; done = λ z. absurd (omega arith); named = k }
+pub refuses : {l : List Rule} {Accepted : ℕ → Type 0} {d : Desk} {r : Refusal} → Lowest l (refusals.number_of r) → Commanded l Accepted d d (Err r)
+refuses {r = r} h = record { refusal = h; kept = λ _. refl; done = λ z. absurd (omega (arith, number_some r)); named = number_some r }
 
-pub accepts : {l : List Refusal} {Accepted : ℕ → Type 0} {d after : Desk} {n : ℕ} → Lowest l 0 → Accepted n → Commanded l Accepted d after (outcome.Done n)
+pub accepts : {l : List Rule} {Accepted : ℕ → Type 0} {d after : Desk} {n : ℕ} → Lowest l 0 → Accepted n → Commanded l Accepted d after (Ok n)
 accepts h k = record { refusal = h; kept = λ z. absurd (omega arith); done = λ _. k; named = tt }
 
 -- where an accepted command allows one desk and one count, it allows one desk and one answer
-module _ (l : List Refusal) {A B : ℕ → Type 0} {d a b : Desk} (one : (m n : ℕ) → A m → B n → (a ≡ b) × (m ≡ n)) where
+module _ (l : List Rule) {A B : ℕ → Type 0} {d a b : Desk} (one : (m n : ℕ) → A m → B n → (a ≡ b) × (m ≡ n)) where
   pub commanded_once : (q r : Outcome) → Commanded l A d a q → Commanded l B d b r → (a ≡ b) × (q ≡ r)
-  commanded_once (outcome.Done m) (outcome.Done n) p q = let e = one m n (p.done refl) (q.done refl) in (e.0, ap outcome.Done e.1)
-  commanded_once (outcome.Done m) (outcome.Refused n) p q = absurd (omega (arith, q.named, lowest_once l {m = 0} {n = n} p.refusal q.refusal))
-  commanded_once (outcome.Refused m) (outcome.Done n) p q = absurd (omega (arith, p.named, lowest_once l {m = m} {n = 0} p.refusal q.refusal))
-  commanded_once (outcome.Refused m) (outcome.Refused n) p q = (p.kept p.named ∙ sym (q.kept q.named), ap outcome.Refused (lowest_once l {m = m} {n = n} p.refusal q.refusal))
+  commanded_once (Ok m) (Ok n) p q = let e = one m n (p.done refl) (q.done refl) in (e.0, ap Ok e.1)
+  commanded_once (Ok m) (Err r) p q = absurd (omega (arith, q.named, lowest_once l {m = 0} {n = refusals.number_of r} p.refusal q.refusal))
+  commanded_once (Err r) (Ok n) p q = absurd (omega (arith, p.named, lowest_once l {m = refusals.number_of r} {n = 0} p.refusal q.refusal))
+  commanded_once (Err m) (Err n) p q =
+      (p.kept p.named ∙ sym (q.kept q.named), ap Err (number_once m n (lowest_once l {m = refusals.number_of m} {n = refusals.number_of n} p.refusal q.refusal)))
 
 -- ---- starting afresh
 pub fresh-is : {shapes places : List ℤ} {rows book marks : List ℕ} → shapes ≡ replicate Limits.shapes_length (pos 0) → places ≡ replicate Limits.places_length (pos 0)
@@ -141,7 +143,7 @@ does_once (Remove place) numbers d a b q r = removed_once q r
 does_once (Gap gap) numbers d a b q r = gap_once q r
 
 -- ---- the listing
-pub contacts_refused : {d : Desk} {room : List ℕ} → (InOrder d → ⊥) → ListsContacts d room room (Refused Limits.disorder)
+pub contacts_refused : {d : Desk} {room : List ℕ} → (InOrder d → ⊥) → ListsContacts d room room (Err Disorder)
 contacts_refused f = record {
   refusal = inl (f, refl);
   written = λ z. absurd (omega arith);
@@ -151,25 +153,26 @@ contacts_refused f = record {
   named = omega arith;
 }
 
-pub contacts_listed : {d : Desk} {room after : List ℕ} {r : Listed} → InOrder d → Lists d.rows room after r → ListsContacts d room after r
+pub contacts_listed : {d : Desk} {room after : List ℕ} {r : Result ℕ Refusal} → InOrder d → Lists d.rows room after r → ListsContacts d room after r
 contacts_listed o l = record { refusal = inr (λ f. f o, l.refusal); written = l.written; count = l.count; kept = l.kept; zeros = l.zeros; named = l.named }
 
-pub contacts_once : {d : Desk} {room a b : List ℕ} (q r : Listed) → ListsContacts d room a q → ListsContacts d room b r → (a ≡ b) × (q ≡ r)
-contacts_once (Rows m) (Rows n) p q = (p.written refl ∙ sym (q.written refl), ap Rows (let a = p.count refl in let b = q.count refl in omega arith))
-contacts_once {d} {room} (Rows m) (Refused n) p q = absurd (omega (arith, q.named, lowest_once (contact_refusals d room) {m = 0} {n = n} p.refusal q.refusal))
-contacts_once {d} {room} (Refused m) (Rows n) p q = absurd (omega (arith, p.named, lowest_once (contact_refusals d room) {m = m} {n = 0} p.refusal q.refusal))
-contacts_once {d} {room} (Refused m) (Refused n) p q = (p.kept p.named ∙ sym (q.kept q.named), ap Refused (lowest_once (contact_refusals d room) {m = m} {n = n} p.refusal q.refusal))
+pub contacts_once : {d : Desk} {room a b : List ℕ} (q r : Result ℕ Refusal) → ListsContacts d room a q → ListsContacts d room b r → (a ≡ b) × (q ≡ r)
+contacts_once (Ok m) (Ok n) p q = (p.written refl ∙ sym (q.written refl), ap Ok (let a = p.count refl in let b = q.count refl in omega arith))
+contacts_once {d} {room} (Ok m) (Err n) p q = absurd (omega (arith, q.named, lowest_once (contact_refusals d room) {m = 0} {n = refusals.number_of n} p.refusal q.refusal))
+contacts_once {d} {room} (Err m) (Ok n) p q = absurd (omega (arith, p.named, lowest_once (contact_refusals d room) {m = refusals.number_of m} {n = 0} p.refusal q.refusal))
+contacts_once {d} {room} (Err m) (Err n) p q =
+    (p.kept p.named ∙ sym (q.kept q.named), ap Err (number_once m n (lowest_once (contact_refusals d room) {m = refusals.number_of m} {n = refusals.number_of n} p.refusal q.refusal)))
 
 -- ---- the pair question
-pub pair_refuses : {d : Desk} {first second : ℤ} {n : ℕ} {r : Answer} → Lowest (pair_refusals d first second) n → 0 < n → r ≡ nothing n → Pairs d first second r
-pair_refuses {d} {first} {second} {n} h k e = subst (Pairs d first second) (sym e) (record { refusal = h; zeros = λ _. refl; carries = λ z. absurd (omega arith) })
+pub pair_refuses : {d : Desk} {first second : ℤ} {n : ℕ} → Lowest (pair_refusals d first second) n → 0 < n → Pairs d first second (nothing n)
+pair_refuses h k = record { refusal = h; zeros = λ _. refl; carries = λ z. absurd (omega arith) }
 
-pub pair_answers : {d : Desk} {first second : ℤ} {i j : ℕ} {r : Answer} → Lowest (pair_refusals d first second) 0 → i ≡ nat_abs first → j ≡ nat_abs second
-    → (r.number ≡ 0) × Carries (gap_of d) (piece_at d.store i) (piece_at d.store j) r → Pairs d first second r
-pair_answers {d} {first} {second} {r = r} h ei ej c = record {
-  refusal = subst (Lowest (pair_refusals d first second)) (sym c.0) h;
-  zeros = λ f. absurd (f c.0);
-  carries = λ _. (carries_at (ap (piece_at d.store) ei) (ap (piece_at d.store) ej) c).1;
+pub pair_answers : {d : Desk} {first second : ℤ} {i j : ℕ} (v : Verdict) → Lowest (pair_refusals d first second) 0 → i ≡ nat_abs first → j ≡ nat_abs second
+    → Carries (gap_of d) (piece_at d.store i) (piece_at d.store j) (answer_with v) → Pairs d first second (answer_with v)
+pair_answers {d} {first} {second} v h ei ej c = record {
+  refusal = subst (Lowest (pair_refusals d first second)) (sym (not_refused v)) h;
+  zeros = λ f. absurd (f (not_refused v));
+  carries = λ _. carries_at (ap (piece_at d.store) ei) (ap (piece_at d.store) ej) c;
 }
 
 -- only witnesses may vary

@@ -2,36 +2,24 @@
 // The desk is only read.
 #![tactic(auto)]
 
-ghost use Rattle.desk_state.specs.Desk.{desk_of};
+ghost use Rattle.verdict.specs.Answers.{answer_of};
+ghost use Rattle.desk_state.specs.Lent.{seen};
 ghost use Rattle.desk.specs.Commands.{Pairs};
 
-use desk_refusals::asked::pair_refusal;
-use desk_state::desk_in_order;
-use pieces::index::index_of;
+use desk_refusals::asked;
+use desk_state::SeenDesk;
+use limits::Refusal;
 use rows_right::row::verdict_of;
 use rows_tally::gap_of;
-use verdict::{Answer, refused};
+use verdict::Verdict;
 
-pub fn pair(
-    shapes: &[i32; limits::SHAPES_LENGTH],
-    places: &[i32; limits::PLACES_LENGTH],
-    rows: &[u8; limits::ROWS],
-    book: &[u32; limits::BOOK],
-    marks: &[u16],
-    first: i32,
-    second: i32,
-) -> Answer
-    ensures { Pairs (desk_of shapes.now places.now rows.now book.now marks.now) first second result }
+pub fn pair(desk: SeenDesk<'_>, first: i32, second: i32) -> Result<Verdict, Refusal>
+    ensures { Pairs (seen desk.entry) first second (answer_of result) }
 {
-    if !desk_in_order(shapes, places, rows, book, marks) {
-        return refused(limits::DISORDER);
+    if !desk.in_order() {
+        return Err(Refusal::Disorder);
     }
-    let number = pair_refusal(places, first, second);
-    if number != limits::DONE {
-        return refused(number);
-    }
-    let i = index_of(first, limits::PLACES);
-    let j = index_of(second, limits::PLACES);
-    let gap = gap_of(book);
-    verdict_of(gap, shapes, places, i, j)
+    let (i, j) = asked::two_places(desk.places, first, second)?;
+    let gap = gap_of(desk.book);
+    Ok(verdict_of(gap, desk.shapes, desk.places, i, j))
 }

@@ -2,13 +2,15 @@
 // Every refusal is found before anything is written.
 #![tactic(auto)]
 
+ghost use Rattle.std.specs.Prelude.{◌≡◌, nat_abs, IfOk};
 ghost use Rattle.limits.specs.Decides.{Decides};
-ghost use Rattle.desk_state.specs.Desk.{desk_of};
+ghost use Rattle.limits.specs.Refusals.{answer_number};
+ghost use Rattle.desk_state.specs.Lent.{of_book, SameBook, with_book};
 ghost use Rattle.desk.specs.Commands.{SomeTaken, SetsGap};
 ghost use Rattle.desk_gap.specs.Setting.{GapAsked};
 
-use desk::Outcome;
-use desk_state::desk_in_order;
+use desk_state::LentBook;
+use limits::Refusal;
 use pieces::index::index_of;
 use pieces::taking::is_taken;
 use rows_tally::put_gap;
@@ -17,53 +19,40 @@ use rows_tally::put_gap;
 const GAPS: usize = limits::GAP_MOST as usize + 1;
 
 // Refused, or the desk has this gap.
-pub fn set_gap(
-    shapes: &[i32; limits::SHAPES_LENGTH],
-    places: &[i32; limits::PLACES_LENGTH],
-    rows: &[u8; limits::ROWS],
-    book: &mut [u32; limits::BOOK],
-    marks: &[u16],
-    gap: i32,
-) -> Outcome
-    ensures { SetsGap
-        (desk_of shapes.now places.now rows.now book.old marks.now) gap
-        (desk_of shapes.now places.now rows.now book.new marks.now) result }
+pub fn set_gap(desk: &mut LentBook<'_>, gap: i32) -> Result<u32, Refusal>
+    ensures same { SameBook desk.old desk.new }
+    ensures sets_gap { SetsGap (of_book desk.old) gap (with_book desk.old desk.new) result }
 {
-    if !desk_in_order(shapes, places, rows, book, marks) {
-        return Outcome::Refused(limits::DISORDER);
+    if !desk.in_order() {
+        return Err(Refusal::Disorder);
     }
-    let number = gap_refusal(places, gap);
-    if number != limits::DONE {
-        return Outcome::Refused(number);
-    }
-    let steps = index_of(gap, GAPS);
-    put_gap(book, steps as u32);
-    Outcome::Done(0)
+    let steps = gap_asked(desk.places, gap)?;
+    put_gap(desk.book, steps as u32);
+    Ok(0)
 }
 
-// What a gap is refused for: 24, out of range or set while a place is taken.
-fn gap_refusal(places: &[i32; limits::PLACES_LENGTH], gap: i32) -> u8
-    ensures { GapAsked places.now gap result }
+// A gap that can be set: 24, out of range or set while a place is taken.
+fn gap_asked(places: &[i32; limits::PLACES_LENGTH], gap: i32) -> Result<usize, Refusal>
+    ensures asked { GapAsked places.now gap (answer_number result) }
+    ensures index { IfOk result (λ steps. steps ≡ nat_abs gap) }
 {
-    if GAPS <= index_of(gap, GAPS) {
-        return limits::GAP_REFUSED;
-    }
+    let Some(steps) = index_of(gap, GAPS) else {
+        return Err(Refusal::GapRefused);
+    };
     if some_taken(places) {
-        return limits::GAP_REFUSED;
+        return Err(Refusal::GapRefused);
     }
-    limits::DONE
+    Ok(steps)
 }
 
 // Whether some place is taken.
 fn some_taken(places: &[i32; limits::PLACES_LENGTH]) -> bool
     ensures { Decides result (SomeTaken places.now) }
 {
-    let mut place = 0;
-    while place < limits::PLACES {
+    for place in 0..limits::PLACES {
         if is_taken(places, place) {
             return true;
         }
-        place += 1;
     }
     false
 }

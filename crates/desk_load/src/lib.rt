@@ -2,75 +2,64 @@
 // Every refusal is found before anything is written.
 #![tactic(auto)]
 
-ghost use Rattle.std.specs.Prelude.{◌≡◌, ◌+◌, ◌<◌, ◌≤◌, length};
-ghost use Rattle.std.proofs.lemmas.List.Edits.{sets};
+ghost use Rattle.std.specs.Prelude.{◌≡◌, ◌<◌, ◌≤◌, length, nat_abs, IfOk};
 ghost use Rattle.limits.specs.Limits;
+ghost use Rattle.limits.specs.Refusals.{answer_number};
 ghost use Rattle.pieces.specs.Pieces.{loaded_in};
-ghost use Rattle.desk_state.specs.Desk.{desk_of};
+ghost use Rattle.desk_state.specs.Lent.{of_shapes, SameShapes, with_shapes};
 ghost use Rattle.desk.specs.Commands.{Loads};
 ghost use Rattle.desk_load.specs.Loading.{LoadAsked, CornersAsked};
 
-use desk::Outcome;
-use desk_state::desk_in_order;
+use desk_state::LentShapes;
+use limits::Refusal;
 use pieces::index::index_of;
 use pieces_test::{is_loaded, sized_store};
 use space::{in_reach, length_fits};
 
-pub fn load(
-    shapes: &mut [i32; limits::SHAPES_LENGTH],
-    places: &[i32; limits::PLACES_LENGTH],
-    rows: &[u8; limits::ROWS],
-    book: &[u32; limits::BOOK],
-    marks: &[u16],
+pub fn load(desk: &mut LentShapes<'_>, shape: i32, numbers: &[i32]) -> Result<u32, Refusal>
+    ensures same { SameShapes desk.old desk.new }
+    ensures loads { Loads (of_shapes desk.old) shape numbers.now (with_shapes desk.old desk.new) result }
+{
+    if !desk.in_order() {
+        return Err(Refusal::Disorder);
+    }
+    let s = load_asked(desk.shapes, shape, numbers)?;
+    // Stays: without this call the proof knows no length of an array that is lent behind the struct.
+    sized_store(desk.shapes, desk.places);
+    put_shape(desk.shapes, s, numbers);
+    Ok(0)
+}
+
+// A shape that can be loaded with these corners: 2, 3, 4, 5.
+fn load_asked(
+    shapes: &[i32; limits::SHAPES_LENGTH],
     shape: i32,
     numbers: &[i32],
-) -> Outcome
-    ensures { Loads
-        (desk_of shapes.old places.now rows.now book.now marks.now) shape numbers.now
-        (desk_of shapes.new places.now rows.now book.now marks.now) result }
+) -> Result<usize, Refusal>
+    ensures asked { LoadAsked shapes.now shape numbers.now (answer_number result) }
+    ensures index { IfOk result (λ s. s ≡ nat_abs shape) }
 {
-    if !desk_in_order(shapes, places, rows, book, marks) {
-        return Outcome::Refused(limits::DISORDER);
-    }
-    let number = load_refusal(shapes, shape, numbers);
-    if number != limits::DONE {
-        return Outcome::Refused(number);
-    }
-    sized_store(shapes, places);
-    let s = index_of(shape, limits::SHAPES);
-    put_shape(shapes, s, numbers);
-    Outcome::Done(0)
-}
-
-// What a shape's number and its corners are refused for: 2, 3, 4, 5.
-fn load_refusal(shapes: &[i32; limits::SHAPES_LENGTH], shape: i32, numbers: &[i32]) -> u8
-    ensures { LoadAsked shapes.now shape numbers.now result }
-{
-    let s = index_of(shape, limits::SHAPES);
-    if limits::SHAPES <= s {
-        return limits::SHAPE_NUMBER;
-    }
-    let number = corners_refusal(numbers);
-    if number != limits::DONE {
-        return number;
-    }
+    let Some(s) = index_of(shape, limits::SHAPES) else {
+        return Err(Refusal::ShapeNumber);
+    };
+    corners_asked(numbers)?;
     if is_loaded(shapes, s) {
-        return limits::SHAPE_LOADED;
+        return Err(Refusal::ShapeLoaded);
     }
-    limits::DONE
+    Ok(s)
 }
 
-// What the corners alone are refused for: 3, 4.
-fn corners_refusal(numbers: &[i32]) -> u8
-    ensures { CornersAsked numbers.now result }
+// What the corners alone are asked: 3, 4.
+fn corners_asked(numbers: &[i32]) -> Result<(), Refusal>
+    ensures { CornersAsked numbers.now (answer_number result) }
 {
     if !length_fits(numbers.len()) {
-        return limits::LIST_LENGTH;
+        return Err(Refusal::ListLength);
     }
     if !in_reach(numbers, limits::SHAPE_REACH) {
-        return limits::CORNER_RANGE;
+        return Err(Refusal::CornerRange);
     }
-    limits::DONE
+    Ok(())
 }
 
 // A shape stored: how many corners it has, and then their numbers.
@@ -78,19 +67,8 @@ fn put_shape(shapes: &mut [i32; limits::SHAPES_LENGTH], s: usize, numbers: &[i32
     requires { (s < Limits.shapes) × (length numbers.now ≤ Limits.shape_numbers) × (length shapes.old ≡ Limits.shapes_length) }
     ensures { shapes.new ≡ loaded_in shapes.old s numbers.now }
 {
-    let start = s * limits::SHAPE_CELLS;
-    shapes[start] = (numbers.len() / 3) as i32;
-    copy_numbers(shapes, start + 1, numbers);
-}
-
-// Numbers stored one after the other.
-fn copy_numbers(shapes: &mut [i32; limits::SHAPES_LENGTH], start: usize, numbers: &[i32])
-    requires { (start + length numbers.now ≤ Limits.shapes_length) × (length shapes.old ≡ Limits.shapes_length) }
-    ensures { shapes.new ≡ sets shapes.old start numbers.now }
-{
-    let mut i: usize = 0;
-    while i < numbers.len() {
-        shapes[start + i] = numbers[i];
-        i += 1;
-    }
+    let count = s * limits::SHAPE_CELLS;
+    shapes[count] = (numbers.len() / 3) as i32;
+    let first = count + 1;
+    shapes[first..first + numbers.len()].copy_from_slice(numbers);
 }

@@ -1,19 +1,20 @@
 -- A move, from its tests to its record: what each part of the tests has asked, how the parts make the command's own list, and the true count.
 -- A callee sees a signed number through its bits; each law is told that what was handed on is what was handed in.
-use Rattle.std.specs.Prelude.{◌≡◌, refl, List, ◌++◌, ℕ, zero, suc, ◌+◌, ◌-◌, ℤ, pos, negsuc, nat_abs}
+use Rattle.std.specs.Prelude.{◌≡◌, refl, List, ◌++◌, ℕ, zero, suc, ◌+◌, ◌-◌, ℤ, pos, negsuc, nat_abs, Ok, Err}
 use Rattle.std.proofs.Common.{sym, ap, ◌∙◌, subst, inr, arith}
 use Rattle.std.proofs.Math.IntN.{◌-ℤ◌, -ℤ_one}
 use Rattle.limits.specs.Limits
 use Rattle.limits.specs.Lowest.{Lowest}
-use Rattle.limits.proofs.LowestLaws.{positive, lowest_first, lowest_then}
+use Rattle.limits.specs.Refusals.{number_of}
+use Rattle.limits.specs.declared.Refusal.{Refusal}
+use Rattle.limits.proofs.LowestLaws.{lowest_first, lowest_then}
+use Rattle.limits.proofs.RefusalLaws.{number_some}
 use Rattle.limits.specs.Numbered.{Numbered}
 use Rattle.marks.specs.Marks.{OthersStayMarks}
 use Rattle.marks.specs.Keys.{KeyedMarks}
 use Rattle.marks.specs.Promises.{CountedMarks}
 use Rattle.pieces.specs.declared.placement.Placement.{Placement}
 use Rattle.pieces.specs.declared.placement.Offset.{Offset}
-use Rattle.pieces.specs.Index.{Indexed}
-use Rattle.pieces.specs.IndexLaws.{indexed_is}
 use Rattle.pieces.specs.Pieces.{Store, Taken, Loaded, held_in, axes_of}
 use Rattle.pieces.specs.Store.{taken_is}
 use Rattle.desk_state.specs.Desk.{Desk, InOrder, OffsetFits}
@@ -23,7 +24,6 @@ use Rattle.desk_refusals.specs.Parts.{taken_refusals, placement_refusals}
 use Rattle.desk_refusals.specs.Asked.{Asked, asked_refused, TakenAsked, PlacementAsked, placement_handed}
 use Rattle.desk.specs.Commands.{moved_to, MovedBy, move_refusals, Moves}
 use Rattle.desk.specs.CommandLaws.{refuses, accepts}
-use Rattle.desk.specs.declared.Outcome.TheVariants as outcome
 
 -- ---- what a move may go on with
 pub record MayMove (places : List ℤ) (place turn : ℤ) (o : Offset) : Type 0 where
@@ -45,12 +45,9 @@ module _ (places : List ℤ) (place turn : ℤ) (o : Offset) {a c u v w : ℤ} (
   taken_at_lem : (n : ℕ) → TakenAsked places a n → TakenAsked places place n
   taken_at_lem n h = subst (λ (i : ℤ). TakenAsked places i n) ea h
 
-  pub move_by_place : (n : ℕ) → TakenAsked places a n → (n ≡ 0 → ⊥) → MoveAsked places place turn o n
-  move_by_place n h f = asked_refused (lowest_first (taken_refusals places place) (placement_refusals turn o.x o.y o.z) (taken_at_lem n h).refusal (positive f)) (positive f)
-
-  pub move_by_rest : (k : ℕ) → TakenAsked places a k → k ≡ 0 → (n : ℕ) → PlacementAsked c u v w n → MoveAsked places place turn o n
-  move_by_rest k p ek n h =
-      let q = subst (TakenAsked places place) ek (taken_at_lem k p) in
+  pub move_by_rest : TakenAsked places a 0 → (n : ℕ) → PlacementAsked c u v w n → MoveAsked places place turn o n
+  move_by_rest p n h =
+      let q = taken_at_lem 0 p in
       let r = placement_handed ec eu ev ew h in
       record {
         refusal = lowest_then (taken_refusals places place) (placement_refusals turn o.x o.y o.z) n (omega arith, (omega arith, tt)) q.refusal r.refusal;
@@ -92,22 +89,22 @@ moved_by_lem {d} {after} {p} {turn} {o} m h old new k = record {
   most = k.most;
 }
 
-module _ (d : Desk) (place turn : ℤ) (o : Offset) {a c : ℤ} (ea : a ≡ place) (ec : c ≡ turn) (order : InOrder d) (n : ℕ) (k : MoveAsked d.store.places a c o n) where
-  move_asked : MoveAsked d.store.places place turn o n
-  move_asked = rw (sym ea, sym ec) k
+module _ (d : Desk) (place turn : ℤ) (o : Offset) {a c : ℤ} (ea : a ≡ place) (ec : c ≡ turn) (order : InOrder d) where
+  move_asked : {n : ℕ} → MoveAsked d.store.places a c o n → MoveAsked d.store.places place turn o n
+  move_asked k = rw (sym ea, sym ec) k
 
-  move_lowest : Lowest (move_refusals d place turn o) n
-  move_lowest = inr (λ f. f order, move_asked.refusal)
+  move_lowest : {n : ℕ} → MoveAsked d.store.places a c o n → Lowest (move_refusals d place turn o) n
+  move_lowest k = inr (λ f. f order, (move_asked k).refusal)
 
-  pub move_refused : (n ≡ 0 → ⊥) → Moves d place turn o d (outcome.Refused n)
-  move_refused f = refuses move_lowest (positive f)
+  pub move_refused : {r : Refusal} → MoveAsked d.store.places a c o (number_of r) → Moves d place turn o d (Err r)
+  move_refused k = refuses (move_lowest k)
 
-  module _ (e : n ≡ 0) {i : ℕ} (ii : Indexed Limits.places a i) where
+  module _ {i : ℕ} (k : MoveAsked d.store.places a c o 0) (is : i ≡ nat_abs a) where
     move_given : MayMove d.store.places place turn o
-    move_given = move_asked.given e
+    move_given = (move_asked k).given refl
 
     at-is : i ≡ nat_abs place
-    at-is = indexed_is (subst (λ (j : ℤ). Indexed Limits.places j i) ea ii) move_given.numbered
+    at-is = is ∙ ap nat_abs ea
 
     pub may_move : MayTurn d i c o
     may_move =
@@ -126,5 +123,5 @@ module _ (d : Desk) (place turn : ℤ) (o : Offset) {a c : ℤ} (ea : a ≡ plac
           };
         }
 
-    pub moved : {after : Desk} {count : ℕ} → MovedBy d i c o after count → Moves d place turn o after (outcome.Done count)
-    moved {after} {count} p = accepts (subst (Lowest (move_refusals d place turn o)) e move_lowest) (rw (sym at-is, sym ec) p)
+    pub moved : {after : Desk} {count : ℕ} → MovedBy d i c o after count → Moves d place turn o after (Ok count)
+    moved {after} {count} p = accepts (move_lowest k) (rw (sym at-is, sym ec) p)

@@ -2,72 +2,54 @@
 // Every refusal is found before anything is written.
 #![tactic(auto)]
 
-ghost use Rattle.std.specs.Prelude.{◌≡◌, ◌+◌, ◌<◌};
+ghost use Rattle.std.specs.Prelude.{◌≡◌, ◌+◌, ◌<◌, nat_abs, IfOk};
 ghost use Rattle.limits.specs.Limits;
 ghost use Rattle.limits.specs.Numbered.{Numbered};
-ghost use Rattle.pieces.specs.Pieces.{store_of, held_in};
-ghost use Rattle.desk_state.specs.Desk.{desk_of};
-ghost use Rattle.desk_state.specs.Worked.{Worked};
+ghost use Rattle.limits.specs.Refusals.{answer_number};
+ghost use Rattle.pieces.specs.Pieces.{held_in};
+ghost use Rattle.desk_state.specs.Lent.{of_places, SamePlaces, with_places};
+ghost use Rattle.desk_state.specs.Worked.{WorkedFor};
 ghost use Rattle.desk.specs.Commands.{moved_to, MovedBy, Moves};
 ghost use Rattle.desk_move.specs.Moving.{MoveAsked, MayTurn};
 
-use desk::Outcome;
 use desk_put::put_place;
-use desk_refusals::asked::{placement_refusal, taken_refusal};
-use desk_state::desk_tested;
+use desk_refusals::asked;
+use desk_state::{LentPlaces, WorkedOut};
+use limits::Refusal;
 use marks_count::count_marks;
-use pieces::index::index_of;
 use pieces::placement::{Offset, Placement};
-use pieces_box::boxes::{BOXES, boxes_of};
-use pieces_box::keys::no_keys;
 
 // Refused, or the piece stands there anew.
 pub fn move_piece(
-    shapes: &[i32; limits::SHAPES_LENGTH],
-    places: &mut [i32; limits::PLACES_LENGTH],
-    rows: &mut [u8; limits::ROWS],
-    book: &mut [u32; limits::BOOK],
-    marks: &mut [u16],
+    desk: &mut LentPlaces<'_>,
     place: i32,
     turn: i32,
     o: Offset,
-) -> Outcome
-    ensures { Moves
-        (desk_of shapes.now places.old rows.old book.old marks.old) place turn o
-        (desk_of shapes.now places.new rows.new book.new marks.new) result }
+) -> Result<u32, Refusal>
+    ensures same { SamePlaces desk.old desk.new }
+    ensures moves { Moves (of_places desk.old) place turn o (with_places desk.old desk.new) result }
 {
-    let boxes = boxes_of(shapes);
-    let mut x = no_keys();
-    let mut y = no_keys();
-    let mut z = no_keys();
-    if !desk_tested(
-        shapes, places, rows, book, marks, &boxes, &mut x, &mut y, &mut z,
-    ) {
-        return Outcome::Refused(limits::DISORDER);
+    let mut worked = WorkedOut::boxes_of(desk.shapes);
+    if !desk.tested(&mut worked) {
+        return Err(Refusal::Disorder);
     }
-    let number = move_refusal(places, place, turn, o);
-    if number != limits::DONE {
-        return Outcome::Refused(number);
-    }
-    let p = index_of(place, limits::PLACES);
-    let count = move_to(
-        shapes, places, rows, book, marks, &boxes, &mut x, &mut y, &mut z, p, turn, o,
-    );
-    Outcome::Done(count)
+    let p = move_asked(desk.places, place, turn, o)?;
+    Ok(move_to(desk, &mut worked, p, turn, o))
 }
 
-// What the numbers of a move are refused for: 7, 9, 10, 11.
-fn move_refusal(places: &[i32; limits::PLACES_LENGTH], place: i32, turn: i32, o: Offset) -> u8
-    ensures { MoveAsked places.now place turn o result }
+// A taken place whose piece can be turned and moved so: 7, 9, 10, 11.
+fn move_asked(
+    places: &[i32; limits::PLACES_LENGTH],
+    place: i32,
+    turn: i32,
+    o: Offset,
+) -> Result<usize, Refusal>
+    ensures asked { MoveAsked places.now place turn o (answer_number result) }
+    ensures index { IfOk result (λ p. p ≡ nat_abs place) }
 {
-    let number = taken_refusal(places, place);
-    if number != limits::DONE {
-        return number;
-    }
-    let x = o.x;
-    let y = o.y;
-    let z = o.z;
-    placement_refusal(turn, x, y, z)
+    let p = asked::taken_place(places, place)?;
+    asked::placement(turn, o.x, o.y, o.z)?;
+    Ok(p)
 }
 
 // The placement that a move puts down: the shape stays.
@@ -75,44 +57,30 @@ fn moved_to(places: &[i32; limits::PLACES_LENGTH], place: usize, turn: i32, o: O
     requires { (place < Limits.places) × Numbered (Limits.shapes + 1) (held_in places.now place) }
     ensures { result ≡ moved_to places.now place turn o }
 {
-    let held = places[limits::PLACE_CELLS * place];
-    let x = o.x;
-    let y = o.y;
-    let z = o.z;
     Placement {
-        shape: held - 1,
-        turn: turn,
-        x: x,
-        y: y,
-        z: z,
+        shape: places[limits::PLACE_CELLS * place] - 1,
+        turn,
+        x: o.x,
+        y: o.y,
+        z: o.z,
     }
 }
 
 // The piece of a taken place put down anew; how many pairs of marks changed their order, by the keys before and after.
 fn move_to(
-    shapes: &[i32; limits::SHAPES_LENGTH],
-    places: &mut [i32; limits::PLACES_LENGTH],
-    rows: &mut [u8; limits::ROWS],
-    book: &mut [u32; limits::BOOK],
-    marks: &mut [u16],
-    boxes: &[i32; BOXES],
-    x: &mut [u32; limits::AXIS_MARKS],
-    y: &mut [u32; limits::AXIS_MARKS],
-    z: &mut [u32; limits::AXIS_MARKS],
+    desk: &mut LentPlaces<'_>,
+    worked: &mut WorkedOut,
     place: usize,
     turn: i32,
     o: Offset,
 ) -> u32
-    requires may_turn { MayTurn (desk_of shapes.now places.old rows.old book.old marks.old) place turn o }
-    requires worked { Worked (store_of shapes.now places.old) boxes.now x.old y.old z.old }
-    ensures { MovedBy
-        (desk_of shapes.now places.old rows.old book.old marks.old) place turn o
-        (desk_of shapes.now places.new rows.new book.new marks.new) result }
+    requires may_turn { MayTurn (of_places desk.old) place turn o }
+    requires worked { WorkedFor (of_places desk.old).store worked.old }
+    ensures same { SamePlaces desk.old desk.new }
+    ensures moved { MovedBy (of_places desk.old) place turn o (with_places desk.old desk.new) result }
 {
-    let old_x = *x;
-    let old_y = *y;
-    let old_z = *z;
-    let q = moved_to(places, place, turn, o);
-    put_place(shapes, places, rows, book, marks, boxes, x, y, z, place, q);
-    count_marks(&old_x, &old_y, &old_z, x, y, z, place)
+    let before = worked.keys;
+    let q = moved_to(desk.places, place, turn, o);
+    put_place(desk, worked, place, q);
+    count_marks(&before, &worked.keys, place)
 }

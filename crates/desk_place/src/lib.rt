@@ -2,102 +2,58 @@
 // Every refusal is found before anything is written.
 #![tactic(auto)]
 
-ghost use Rattle.desk_state.specs.Desk.{desk_of};
+ghost use Rattle.std.specs.Prelude.{◌≡◌, nat_abs, IfOk};
+ghost use Rattle.limits.specs.Refusals.{answer_number};
+ghost use Rattle.desk_state.specs.Lent.{of_places, SamePlaces, with_places};
 ghost use Rattle.desk.specs.Commands.{Places, Removed};
 ghost use Rattle.desk_place.specs.Placing.{PlaceAsked};
 
-use desk::Outcome;
 use desk_put::{empty_place, put_place};
-use desk_refusals::asked::{empty_refusal, placement_refusal, shape_refusal, taken_refusal};
-use desk_state::desk_tested;
-use pieces::index::index_of;
+use desk_refusals::asked;
+use desk_state::{LentPlaces, WorkedOut};
+use limits::Refusal;
 use pieces::placement::Placement;
-use pieces_box::boxes::boxes_of;
-use pieces_box::keys::no_keys;
 
 // Refused, or the piece stands there with its rows, and tallies and marks follow.
-pub fn place(
-    shapes: &[i32; limits::SHAPES_LENGTH],
-    places: &mut [i32; limits::PLACES_LENGTH],
-    rows: &mut [u8; limits::ROWS],
-    book: &mut [u32; limits::BOOK],
-    marks: &mut [u16],
-    place: i32,
-    q: Placement,
-) -> Outcome
-    ensures { Places
-        (desk_of shapes.now places.old rows.old book.old marks.old) place q
-        (desk_of shapes.now places.new rows.new book.new marks.new) result }
+pub fn place(desk: &mut LentPlaces<'_>, place: i32, q: Placement) -> Result<u32, Refusal>
+    ensures same { SamePlaces desk.old desk.new }
+    ensures places { Places (of_places desk.old) place q (with_places desk.old desk.new) result }
 {
-    let boxes = boxes_of(shapes);
-    let mut x = no_keys();
-    let mut y = no_keys();
-    let mut z = no_keys();
-    if !desk_tested(
-        shapes, places, rows, book, marks, &boxes, &mut x, &mut y, &mut z,
-    ) {
-        return Outcome::Refused(limits::DISORDER);
+    let mut worked = WorkedOut::boxes_of(desk.shapes);
+    if !desk.tested(&mut worked) {
+        return Err(Refusal::Disorder);
     }
-    let number = place_refusal(shapes, places, place, q);
-    if number != limits::DONE {
-        return Outcome::Refused(number);
-    }
-    let p = index_of(place, limits::PLACES);
-    put_place(
-        shapes, places, rows, book, marks, &boxes, &mut x, &mut y, &mut z, p, q,
-    );
-    Outcome::Done(0)
+    let p = place_asked(desk.shapes, desk.places, place, q)?;
+    put_place(desk, &mut worked, p, q);
+    Ok(0)
 }
 
-// What the numbers of a placing are refused for: 2, 6, 7, 8, 10, 11.
-fn place_refusal(
+// An empty place that a piece can be put at: 2, 6, 7, 8, 10, 11.
+fn place_asked(
     shapes: &[i32; limits::SHAPES_LENGTH],
     places: &[i32; limits::PLACES_LENGTH],
     place: i32,
     q: Placement,
-) -> u8
-    ensures { PlaceAsked shapes.now places.now place q result }
+) -> Result<usize, Refusal>
+    ensures asked { PlaceAsked shapes.now places.now place q (answer_number result) }
+    ensures index { IfOk result (λ p. p ≡ nat_abs place) }
 {
-    let number = shape_refusal(shapes, q.shape);
-    if number != limits::DONE {
-        return number;
-    }
-    let number = empty_refusal(places, place);
-    if number != limits::DONE {
-        return number;
-    }
-    placement_refusal(q.turn, q.x, q.y, q.z)
+    asked::loaded_shape(shapes, q.shape)?;
+    let p = asked::empty_place(places, place)?;
+    asked::placement(q.turn, q.x, q.y, q.z)?;
+    Ok(p)
 }
 
 // Its place is emptied, its rows and marks go, and the tallies are counted afresh.
-pub fn remove(
-    shapes: &[i32; limits::SHAPES_LENGTH],
-    places: &mut [i32; limits::PLACES_LENGTH],
-    rows: &mut [u8; limits::ROWS],
-    book: &mut [u32; limits::BOOK],
-    marks: &mut [u16],
-    place: i32,
-) -> Outcome
-    ensures { Removed
-        (desk_of shapes.now places.old rows.old book.old marks.old) place
-        (desk_of shapes.now places.new rows.new book.new marks.new) result }
+pub fn remove(desk: &mut LentPlaces<'_>, place: i32) -> Result<u32, Refusal>
+    ensures same { SamePlaces desk.old desk.new }
+    ensures removed { Removed (of_places desk.old) place (with_places desk.old desk.new) result }
 {
-    let boxes = boxes_of(shapes);
-    let mut x = no_keys();
-    let mut y = no_keys();
-    let mut z = no_keys();
-    if !desk_tested(
-        shapes, places, rows, book, marks, &boxes, &mut x, &mut y, &mut z,
-    ) {
-        return Outcome::Refused(limits::DISORDER);
+    let mut worked = WorkedOut::boxes_of(desk.shapes);
+    if !desk.tested(&mut worked) {
+        return Err(Refusal::Disorder);
     }
-    let number = taken_refusal(places, place);
-    if number != limits::DONE {
-        return Outcome::Refused(number);
-    }
-    let p = index_of(place, limits::PLACES);
-    empty_place(
-        shapes, places, rows, book, marks, &boxes, &mut x, &mut y, &mut z, p,
-    );
-    Outcome::Done(0)
+    let p = asked::taken_place(desk.places, place)?;
+    empty_place(desk, &mut worked, p);
+    Ok(0)
 }

@@ -7,6 +7,7 @@ use Rattle.rows.specs.Rows.{Handled, Cleared}
 use Rattle.marks.specs.Marks.{low_mark, high_mark}
 use Rattle.marks.specs.Promises.{ReorderedMarks}
 use Rattle.marks.specs.declared.MarkKeys.{MarkKeys}
+use Rattle.pieces_box.specs.declared.boxes.ShapeBox.{ShapeBox}
 use Rattle.pieces_box.specs.ShapeBox.{key_in}
 use Rattle.pieces.specs.declared.placement.Placement.{Placement}
 use Rattle.pieces.specs.Pieces.{Taken, Loaded}
@@ -14,11 +15,11 @@ use Rattle.desk_state.specs.Desk.{Desk, gap_of, InOrder, OffsetFits, put_at, emp
 use Rattle.rows_right.specs.Right.{RowRight}
 
 -- the keys of a place's marks as the boxes and the placements give them
-abbrev pub keys_for : List ℤ → List ℤ → ℕ → ℕ → MarkKeys
+abbrev pub keys_for : List ShapeBox → List ℤ → ℕ → ℕ → MarkKeys
 keys_for boxes places axis place = record { low = key_in boxes places axis (low_mark place); high = key_in boxes places axis (high_mark place) }
 
 -- the keys of a place's marks are new on each axis, and its marks stand by them
-abbrev pub RenewedIn : List ℤ → List ℤ → ℕ → List ℕ → List ℕ → List ℕ → List ℕ → List ℕ → List ℕ → List ℕ → List ℕ → Type 0
+abbrev pub RenewedIn : List ShapeBox → List ℤ → ℕ → List ℕ → List ℕ → List ℕ → List ℕ → List ℕ → List ℕ → List ℕ → List ℕ → Type 0
 RenewedIn boxes places place x y z x' y' z' before after =
     ReorderedMarks place (keys_for boxes places 0 place) (keys_for boxes places 1 place) (keys_for boxes places 2 place) x y z x' y' z' before after
 

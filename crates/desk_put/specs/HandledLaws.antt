@@ -11,6 +11,7 @@ use Rattle.marks.specs.Keys.{KeyedMarks}
 use Rattle.pieces.specs.Boxes.{PlacedPiece}
 use Rattle.pieces.specs.declared.placement.Placement.{Placement}
 use Rattle.pieces.specs.Pieces.{Store, store_of, Sized, Taken, OthersStay, PiecesInOrder, axes_of, put_in, emptied_in}
+use Rattle.pieces_box.specs.declared.boxes.ShapeBox.{ShapeBox}
 use Rattle.pieces_box.specs.ShapeBox.{AllAsked}
 use Rattle.pieces_box.proofs.KeysLaws.{all_asked}
 use Rattle.desk_state.specs.Desk.{Desk, gap_of, InOrder, put_at, emptied_at}
@@ -25,7 +26,7 @@ pub emptied_at_lem : {d after : Desk} {p q : ℕ} → p ≡ q → Emptied d p af
 emptied_at_lem {d} {after} e h = subst (λ (p : ℕ). Emptied d p after) e h
 
 -- the place emptied: what is left is worked out of the same boxes, and the keys of the others stay
-module _ {d : Desk} {p : ℕ} {boxes : List ℤ} {x y z : List ℕ} (size : Sized d.store) (h : p < Limits.places) (o : InOrder d) (w : Worked d.store boxes x y z) where
+module _ {d : Desk} {p : ℕ} {boxes : List ShapeBox} {x y z : List ℕ} (size : Sized d.store) (h : p < Limits.places) (o : InOrder d) (w : Worked d.store boxes x y z) where
   left_order : PiecesInOrder (emptied_at d.store p)
   left_order = empty_order d.store p size h o.pieces
 
@@ -82,7 +83,7 @@ module _ {d : Desk} {p : ℕ} {q : Placement} {places : List ℤ} (size : Sized 
   }
 
   -- by what the command has worked out: the same boxes, and the keys of the others
-  module _ {boxes : List ℤ} {x y z : List ℕ} (w : Worked d.store boxes x y z) where
+  module _ {boxes : List ShapeBox} {x y z : List ℕ} (w : Worked d.store boxes x y z) where
     pub put_asked : AllAsked boxes places
     put_asked = all_asked put_piece.order w.boxed
 

@@ -12,6 +12,7 @@ use Rattle.marks.proofs.Order.{at_mark, at_none}
 use Rattle.marks.proofs.Buffer.{on_axis_lem}
 use Rattle.pieces.specs.Pieces.{Store, PiecesInOrder, axes_of}
 use Rattle.pieces.specs.Store.{ranged}
+use Rattle.pieces_box.specs.declared.boxes.ShapeBox.{ShapeBox}
 use Rattle.pieces_box.specs.ShapeBox.{Boxed, key_in}
 use Rattle.pieces_box.proofs.KeysLaws.{key_in_lem}
 use Rattle.desk_state.specs.Worked.{Worked}
@@ -65,7 +66,7 @@ keyed_put {old} {new} {p} {keys} {k} same h l o r el eh =
 
 -- ---- on the three
 -- the keys that were worked out are the place's
-module _ (boxes places : List ℤ) (p : ℕ) where
+module _ (boxes : List ShapeBox) (places : List ℤ) (p : ℕ) where
   pub keys_are : (axis : ℕ) {k : MarkKeys} → (k.low ≡ key_in boxes places axis (low_mark p)) × (k.high ≡ key_in boxes places axis (high_mark p)) → k ≡ keys_for boxes places axis p
   keys_are axis e = λ i. record { low = e.0 i; high = e.1 i }
 
@@ -73,7 +74,7 @@ module _ (boxes places : List ℤ) (p : ℕ) where
       → ReorderedMarks p kx ky kz x y z x' y' z' before after → RenewedIn boxes places p x y z x' y' z' before after
   renewed_in ex ey ez r = rw (sym ex, sym ey, sym ez) r
 
-module _ {d e : Store} {boxes : List ℤ} {p : ℕ} {x y z x' y' z' before after : List ℕ} (w : Worked d boxes x y z) (same : d.shapes ≡ e.shapes) (o : PiecesInOrder e)
+module _ {d e : Store} {boxes : List ShapeBox} {p : ℕ} {x y z x' y' z' before after : List ℕ} (w : Worked d boxes x y z) (same : d.shapes ≡ e.shapes) (o : PiecesInOrder e)
     (h : p < Limits.places) (others : OthersStayMarks p (axes_of d) (axes_of e)) (r : RenewedIn boxes e.places p x y z x' y' z' before after) where
   boxed : Boxed e.shapes boxes
   boxed = subst (λ (s : List ℤ). Boxed s boxes) same w.boxed

@@ -2,37 +2,26 @@
 // Every other shape, place and row stays.
 ghost use Rattle.std.specs.Prelude.{◌<◌};
 ghost use Rattle.limits.specs.Limits;
-ghost use Rattle.pieces.specs.Pieces.{store_of};
-ghost use Rattle.desk_state.specs.Desk.{desk_of, InOrder};
-ghost use Rattle.desk_state.specs.Worked.{Worked};
+ghost use Rattle.desk_state.specs.Desk.{InOrder};
+ghost use Rattle.desk_state.specs.Lent.{of_places, SamePlaces, with_places};
+ghost use Rattle.desk_state.specs.Worked.{WorkedFor};
 ghost use Rattle.desk_put.specs.Handled.{Emptied};
 
 use crate::renew::renew_marks;
-use pieces_box::boxes::BOXES;
+use desk_state::{LentPlaces, WorkedOut};
 use pieces_test::sized_store;
 use rows_tally::clear_place;
 
-// A place of a desk in order emptied; x, y and z are the keys of its marks.
-pub fn empty_place(
-    shapes: &[i32; limits::SHAPES_LENGTH],
-    places: &mut [i32; limits::PLACES_LENGTH],
-    rows: &mut [u8; limits::ROWS],
-    book: &mut [u32; limits::BOOK],
-    marks: &mut [u16],
-    boxes: &[i32; BOXES],
-    x: &mut [u32; limits::AXIS_MARKS],
-    y: &mut [u32; limits::AXIS_MARKS],
-    z: &mut [u32; limits::AXIS_MARKS],
-    place: usize,
-)
-    requires in_order { InOrder (desk_of shapes.now places.old rows.old book.old marks.old) × (place < Limits.places) }
-    requires worked { Worked (store_of shapes.now places.old) boxes.now x.old y.old z.old }
-    ensures { Emptied
-        (desk_of shapes.now places.old rows.old book.old marks.old) place
-        (desk_of shapes.now places.new rows.new book.new marks.new) }
+// A place of a desk in order emptied, by what was worked out of the desk.
+pub fn empty_place(desk: &mut LentPlaces<'_>, worked: &mut WorkedOut, place: usize)
+    requires in_order { InOrder (of_places desk.old) × (place < Limits.places) }
+    requires worked { WorkedFor (of_places desk.old).store worked.old }
+    ensures same { SamePlaces desk.old desk.new }
+    ensures emptied { Emptied (of_places desk.old) place (with_places desk.old desk.new) }
 {
-    sized_store(shapes, places);
-    places[limits::PLACE_CELLS * place] = 0;
-    renew_marks(places, marks, boxes, x, y, z, place);
-    clear_place(rows, book, place);
+    // Stays: without this call the proof knows no length of an array that is lent behind the struct.
+    sized_store(desk.shapes, desk.places);
+    desk.places[limits::PLACE_CELLS * place] = 0;
+    renew_marks(desk.places, desk.marks, worked, place);
+    clear_place(desk.rows, desk.book, place);
 }

@@ -4,7 +4,7 @@ use Rattle.std.specs.Prelude.{◌≡◌, refl, List, [], ◌++◌, Bool, ℕ, �
 use Rattle.std.proofs.Common.{sym, inl, inr, arith}
 use Rattle.limits.specs.Limits
 use Rattle.limits.specs.Decides.{Decides}
-use Rattle.limits.specs.Lowest.{Refusal, Lowest}
+use Rattle.limits.specs.Lowest.{Rule, Lowest}
 use Rattle.limits.specs.Numbered.{Numbered}
 use Rattle.pieces.specs.Pieces.{Store, Loaded, store_of, Taken}
 use Rattle.pieces_test.specs.OrderTest.{loaded_alone}
@@ -12,15 +12,12 @@ use Rattle.desk_state.specs.Desk.{OffsetFits}
 use Rattle.desk_refusals.specs.Parts.{shape_refusals, empty_refusals, taken_refusals, placement_refusals, two_refusals}
 
 -- n is the lowest of the part's refusals, and where it is none, `Given` holds
-pub record Asked (l : List Refusal) (Given : Type 0) (n : ℕ) : Type 0 where
+pub record Asked (l : List Rule) (Given : Type 0) (n : ℕ) : Type 0 where
   pub refusal : Lowest l n
   pub given : n ≡ 0 → Given
 
-pub asked_refused : {l : List Refusal} {G : Type 0} {n : ℕ} → Lowest l n → 0 < n → Asked l G n
+pub asked_refused : {l : List Rule} {G : Type 0} {n : ℕ} → Lowest l n → 0 < n → Asked l G n
 asked_refused h k = record { refusal = h; given = λ e. absurd (omega arith) }
-
-pub asked_passed : {l : List Refusal} {G : Type 0} → Lowest l 0 → G → Asked l G 0
-asked_passed h g = record { refusal = h; given = λ _. g }
 
 -- ---- the parts
 abbrev pub ShapeAsked : List ℤ → ℤ → ℕ → Type 0
@@ -46,15 +43,12 @@ abbrev pub PairAsked : List ℤ → ℤ → ℤ → ℕ → Type 0
 PairAsked places first second n = Asked (two_refusals places first second) (MayPair places first second) n
 
 -- ---- laws
--- an offset that was handed on is the one that was handed in
-pub offset_handed : {b : Bool} {u v w x y z : ℤ} → u ≡ x → v ≡ y → w ≡ z → Decides b (OffsetFits u v w) → Decides b (OffsetFits x y z)
-offset_handed {b} e f g d = rw (sym e, sym f, sym g) d
-
+-- a placement that was handed on is the one that was handed in
 pub placement_handed : {c u v w turn x y z : ℤ} {n : ℕ} → c ≡ turn → u ≡ x → v ≡ y → w ≡ z → PlacementAsked c u v w n → PlacementAsked turn x y z n
 placement_handed d e f g h = rw (sym d, sym e, sym f, sym g) h
 
 -- a shape is asked for among the shapes alone, and so of any desk that has them; `rest` is what a command asks besides
-pub shape_whole : (d : Store) (shape : ℤ) (rest : List Refusal) {n : ℕ} → Lowest (shape_refusals (store_of d.shapes []) shape ++ rest) n → Lowest (shape_refusals d shape ++ rest) n
+pub shape_whole : (d : Store) (shape : ℤ) (rest : List Rule) {n : ℕ} → Lowest (shape_refusals (store_of d.shapes []) shape ++ rest) n → Lowest (shape_refusals d shape ++ rest) n
 shape_whole d shape rest (inl h) = inl h
 shape_whole d shape rest (inr (f, inl (g, e))) = inr (f, inl (λ l. g (loaded_alone refl refl l), e))
 shape_whole d shape rest (inr (f, inr (g, h))) = inr (f, inr (λ k. g (λ l. k (loaded_alone refl refl l)), h))

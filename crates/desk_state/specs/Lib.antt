@@ -1,3 +1,4 @@
 pub mod Desk
-pub mod Worked
+pub mod Lent
 pub mod OrderLaws
+pub mod Worked

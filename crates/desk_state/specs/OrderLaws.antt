@@ -10,6 +10,7 @@ use Rattle.marks.specs.Marks.{Axes, InPlaceMarks}
 use Rattle.marks.specs.Keys.{KeyedMarks}
 use Rattle.marks_test.specs.Tested.{TestedMarks}
 use Rattle.pieces.specs.Pieces.{Store, PiecesInOrder, axes_of}
+use Rattle.pieces_box.specs.declared.boxes.ShapeBox.{ShapeBox}
 use Rattle.pieces_box.specs.ShapeBox.{Boxed, KeysIn}
 use Rattle.pieces_box.proofs.KeysLaws.{keyed_in}
 use Rattle.desk_state.specs.Desk.{Desk, InOrder}
@@ -23,9 +24,6 @@ module _ {places : List ℤ} {rows book marks x y z : List ℕ} where
   pub rest_by_marks : {b : Bool} → TestedMarks x y z marks b → b ≡ false → RestDecided places rows book marks x y z false
   rest_by_marks {b} t e = record { decides = λ a k. fails refl (λ o. (marks_decided k t).no e o.marks) }
 
-  pub rest_by_rows : (RowsInOrder places rows → ⊥) → RestDecided places rows book marks x y z false
-  rest_by_rows f = record { decides = λ a k. fails refl (λ o. f o.rows) }
-
   pub rest_by_book : {b r : Bool} → TestedMarks x y z marks b → b ≡ true → RowsInOrder places rows → Decides r (BookInOrder rows book) → RestDecided places rows book marks x y z r
   rest_by_book t e s d = record {
     decides = λ a k. record {
@@ -35,7 +33,7 @@ module _ {places : List ℤ} {rows book marks x y z : List ℕ} where
   }
 
 -- ---- the whole
-pub worked : {d : Store} {boxes : List ℤ} {x y z : List ℕ} → PiecesInOrder d → Boxed d.shapes boxes → KeysIn boxes d.places 0 x → KeysIn boxes d.places 1 y → KeysIn boxes d.places 2 z
+pub worked : {d : Store} {boxes : List ShapeBox} {x y z : List ℕ} → PiecesInOrder d → Boxed d.shapes boxes → KeysIn boxes d.places 0 x → KeysIn boxes d.places 1 y → KeysIn boxes d.places 2 z
     → Worked d boxes x y z
 worked o b x y z = record {
   boxed = b;
@@ -45,7 +43,7 @@ worked o b x y z = record {
   long_z = z.long;
 }
 
-pub order_decided : {d : Desk} {boxes : List ℤ} {x y z : List ℕ} {r : Bool} → PiecesInOrder d.store → Worked d.store boxes x y z
+pub order_decided : {d : Desk} {boxes : List ShapeBox} {x y z : List ℕ} {r : Bool} → PiecesInOrder d.store → Worked d.store boxes x y z
     → RestDecided d.store.places d.rows d.book d.marks x y z r → Decides r (InOrder d)
 order_decided {d} p w t =
     let s = t.decides (axes_of d.store) w.keyed in

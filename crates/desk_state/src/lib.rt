@@ -1,80 +1,202 @@
-// The order test of a whole desk, which every command and question makes first: refusal 1 where it fails.
-// The boxes of the shapes and the keys of the marks are worked out once, and lent on to whoever goes on with the desk.
+// A desk is five lent arrays, which travel together; and the order test of a whole desk, which every command and question makes first.
+// The boxes of the shapes and the keys of the marks are worked out once for the test, and lent on to whoever goes on with the desk.
 #![tactic(auto)]
 
 ghost use Rattle.std.specs.Prelude.{◌≡◌, true};
 ghost use Rattle.limits.specs.Decides.{Decides};
-ghost use Rattle.pieces.specs.Pieces.{store_of};
 ghost use Rattle.pieces_box.specs.ShapeBox.{Boxed};
-ghost use Rattle.desk_state.specs.Desk.{desk_of, InOrder};
-ghost use Rattle.desk_state.specs.Worked.{Worked, RestDecided};
+ghost use Rattle.desk_state.specs.Desk.{InOrder};
+ghost use Rattle.desk_state.specs.Lent.{held, of_book, of_places, of_shapes, seen};
+ghost use Rattle.desk_state.specs.Worked.{WorkedFor, RestDecided};
 
+use marks::Keys;
 use marks_test::in_place_marks;
-use pieces_box::boxes::{BOXES, boxes_of};
-use pieces_box::keys::{no_keys, put_keys};
+use pieces_box::boxes::{Boxes, boxes_of};
+use pieces_box::keys::put_keys;
 use pieces_test::pieces_in_order;
 use rows::rows_in_order;
 use rows_tally::book_in_order;
 
-// Whether marks, rows and book are in order, where the shapes and places are; x, y and z are the keys of the marks.
-fn rest_in_order(
-    places: &[i32; limits::PLACES_LENGTH],
-    rows: &[u8; limits::ROWS],
-    book: &[u32; limits::BOOK],
-    marks: &[u16],
-    x: &[u32; limits::AXIS_MARKS],
-    y: &[u32; limits::AXIS_MARKS],
-    z: &[u32; limits::AXIS_MARKS],
-) -> bool
-    ensures { RestDecided places.now rows.now book.now marks.now x.now y.now z.now result }
-{
-    if !in_place_marks(marks, x, y, z) {
-        return false;
-    }
-    if !rows_in_order(places, rows) {
-        return false;
-    }
-    book_in_order(places, rows, book)
+// The state of a desk (document 01), none of which it owns: a command is lent it to change.
+#[derive(Drop)]
+pub struct LentDesk<'a> {
+    pub shapes: &'a mut [i32; limits::SHAPES_LENGTH],
+    pub places: &'a mut [i32; limits::PLACES_LENGTH],
+    pub rows: &'a mut [u8; limits::ROWS],
+    pub book: &'a mut [u32; limits::BOOK],
+    pub marks: &'a mut [u16],
 }
 
-// Whether a desk is in order; if it is, x, y and z are the keys of its marks. The boxes are those of its shapes.
-pub fn desk_tested(
-    shapes: &[i32; limits::SHAPES_LENGTH],
-    places: &[i32; limits::PLACES_LENGTH],
-    rows: &[u8; limits::ROWS],
-    book: &[u32; limits::BOOK],
-    marks: &[u16],
-    boxes: &[i32; BOXES],
-    x: &mut [u32; limits::AXIS_MARKS],
-    y: &mut [u32; limits::AXIS_MARKS],
-    z: &mut [u32; limits::AXIS_MARKS],
-) -> bool
-    requires { Boxed shapes.now boxes.now }
-    ensures decided { Decides result (InOrder (desk_of shapes.now places.now rows.now book.now marks.now)) }
-    ensures worked { result ≡ true → Worked (store_of shapes.now places.now) boxes.now x.new y.new z.new }
-{
-    if !pieces_in_order(shapes, places, boxes) {
-        return false;
-    }
-    put_keys(boxes, places, x, y, z);
-    rest_in_order(places, rows, book, marks, x, y, z)
+// The same where the shapes alone are lent to be changed: what a load is lent.
+#[derive(Drop)]
+pub struct LentShapes<'a> {
+    pub shapes: &'a mut [i32; limits::SHAPES_LENGTH],
+    pub places: &'a [i32; limits::PLACES_LENGTH],
+    pub rows: &'a [u8; limits::ROWS],
+    pub book: &'a [u32; limits::BOOK],
+    pub marks: &'a [u16],
 }
 
-// Whether a desk is in order, whatever its arrays hold and however long its marks buffer is.
-pub fn desk_in_order(
-    shapes: &[i32; limits::SHAPES_LENGTH],
-    places: &[i32; limits::PLACES_LENGTH],
-    rows: &[u8; limits::ROWS],
-    book: &[u32; limits::BOOK],
-    marks: &[u16],
-) -> bool
-    ensures { Decides result (InOrder (desk_of shapes.now places.now rows.now book.now marks.now)) }
-{
-    let boxes = boxes_of(shapes);
-    let mut x = no_keys();
-    let mut y = no_keys();
-    let mut z = no_keys();
-    desk_tested(
-        shapes, places, rows, book, marks, &boxes, &mut x, &mut y, &mut z,
-    )
+// The same where the book alone is lent to be changed: what the setting of a gap is lent.
+#[derive(Drop)]
+pub struct LentBook<'a> {
+    pub shapes: &'a [i32; limits::SHAPES_LENGTH],
+    pub places: &'a [i32; limits::PLACES_LENGTH],
+    pub rows: &'a [u8; limits::ROWS],
+    pub book: &'a mut [u32; limits::BOOK],
+    pub marks: &'a [u16],
+}
+
+// The same where the shapes are lent to be read alone: what placing, moving and removing a piece are lent.
+#[derive(Drop)]
+pub struct LentPlaces<'a> {
+    pub shapes: &'a [i32; limits::SHAPES_LENGTH],
+    pub places: &'a mut [i32; limits::PLACES_LENGTH],
+    pub rows: &'a mut [u8; limits::ROWS],
+    pub book: &'a mut [u32; limits::BOOK],
+    pub marks: &'a mut [u16],
+}
+
+// The same, lent to be read alone: by the order test and the questions.
+#[derive(Clone, Copy)]
+pub struct SeenDesk<'a> {
+    pub shapes: &'a [i32; limits::SHAPES_LENGTH],
+    pub places: &'a [i32; limits::PLACES_LENGTH],
+    pub rows: &'a [u8; limits::ROWS],
+    pub book: &'a [u32; limits::BOOK],
+    pub marks: &'a [u16],
+}
+
+// What is worked out of a desk once for a command: the boxes of its shapes, and the keys of its marks on each axis.
+#[derive(Drop)]
+pub struct WorkedOut {
+    pub boxes: Boxes,
+    pub keys: Keys,
+}
+
+impl WorkedOut {
+    // The boxes of these shapes; the keys are worked out by the order test.
+    pub fn boxes_of(shapes: &[i32; limits::SHAPES_LENGTH]) -> WorkedOut
+        ensures { Boxed shapes.now result.boxes }
+    {
+        WorkedOut {
+            boxes: boxes_of(shapes),
+            keys: Keys::none(),
+        }
+    }
+}
+
+impl SeenDesk<'_> {
+    // Whether a desk is in order, whatever its arrays hold and however long its marks buffer is.
+    pub fn in_order(self) -> bool
+        ensures { Decides result (InOrder (seen self.entry)) }
+    {
+        let mut worked = WorkedOut::boxes_of(self.shapes);
+        self.tested(&mut worked)
+    }
+
+    // The same, with the boxes of its shapes at hand; where it is in order, the keys are those of its marks.
+    pub fn tested(self, worked: &mut WorkedOut) -> bool
+        requires { Boxed self.shapes.now worked.old.boxes }
+        ensures decided { Decides result (InOrder (seen self.entry)) }
+        ensures worked { result ≡ true → WorkedFor (seen self.entry).store worked.new }
+    {
+        if !pieces_in_order(self.shapes, self.places, &worked.boxes) {
+            return false;
+        }
+        put_keys(&worked.boxes, self.places, &mut worked.keys);
+        self.rest_in_order(worked)
+    }
+
+    // Whether marks, rows and book are in order, where the shapes and places are; the keys are those of the marks.
+    fn rest_in_order(self, worked: &WorkedOut) -> bool
+        ensures { RestDecided
+            self.entry.places.now self.entry.rows.now self.entry.book.now self.entry.marks.now
+            worked.now.keys.x worked.now.keys.y worked.now.keys.z result }
+    {
+        if !in_place_marks(self.marks, &worked.keys) {
+            return false;
+        }
+        if !rows_in_order(self.places, self.rows) {
+            return false;
+        }
+        book_in_order(self.places, self.rows, self.book)
+    }
+}
+
+impl LentDesk<'_> {
+    pub fn seen(&self) -> SeenDesk<'_>
+        ensures { seen result ≡ held self.now }
+    {
+        SeenDesk {
+            shapes: self.shapes,
+            places: self.places,
+            rows: self.rows,
+            book: self.book,
+            marks: self.marks,
+        }
+    }
+}
+
+impl LentShapes<'_> {
+    fn seen(&self) -> SeenDesk<'_>
+        ensures { seen result ≡ of_shapes self.now }
+    {
+        SeenDesk {
+            shapes: self.shapes,
+            places: self.places,
+            rows: self.rows,
+            book: self.book,
+            marks: self.marks,
+        }
+    }
+
+    pub fn in_order(&self) -> bool
+        ensures { Decides result (InOrder (of_shapes self.now)) }
+    {
+        self.seen().in_order()
+    }
+}
+
+impl LentBook<'_> {
+    fn seen(&self) -> SeenDesk<'_>
+        ensures { seen result ≡ of_book self.now }
+    {
+        SeenDesk {
+            shapes: self.shapes,
+            places: self.places,
+            rows: self.rows,
+            book: self.book,
+            marks: self.marks,
+        }
+    }
+
+    pub fn in_order(&self) -> bool
+        ensures { Decides result (InOrder (of_book self.now)) }
+    {
+        self.seen().in_order()
+    }
+}
+
+impl LentPlaces<'_> {
+    pub fn seen(&self) -> SeenDesk<'_>
+        ensures { seen result ≡ of_places self.now }
+    {
+        SeenDesk {
+            shapes: self.shapes,
+            places: self.places,
+            rows: self.rows,
+            book: self.book,
+            marks: self.marks,
+        }
+    }
+
+    // Whether the desk is in order, with the boxes of its shapes at hand; where it is, the keys are those of its marks.
+    pub fn tested(&self, worked: &mut WorkedOut) -> bool
+        requires { Boxed self.now.shapes.now worked.old.boxes }
+        ensures decided { Decides result (InOrder (of_places self.now)) }
+        ensures worked { result ≡ true → WorkedFor (of_places self.now).store worked.new }
+    {
+        self.seen().tested(worked)
+    }
 }

@@ -6,4 +6,5 @@ pub mod Limits
 pub mod Lowest
 pub mod Numbered
 pub mod Powers
+pub mod Refusals
 pub mod Tied

@@ -3,6 +3,7 @@
 #![tactic(auto)]
 
 ghost use Rattle.std.specs.Prelude.{◌≡◌};
+ghost use Rattle.limits.specs.Refusals.{number_of};
 ghost use Rattle.limits.specs.Tied.{the_sizes, the_verdicts, the_ranges, the_refusals};
 
 // How many there are: document 01's 32 corners and 64 places are W4's 64 and 128.
@@ -129,6 +130,46 @@ pub const GAP_REFUSED: u8 = 24;
 pub const COMMA_REFUSED: u8 = 25;
 
 pub const BAD_TEXT: u8 = 26;
+
+// The refusals of document 01, "When the desk says no", by name and number; behind PlacedRange those that requests add (document 02).
+#[derive(Clone, Copy, PartialEq, Eq, PartialOrd, Ord)]
+pub enum Refusal {
+    Disorder = 1,
+    ShapeNumber = 2,
+    ListLength = 3,
+    CornerRange = 4,
+    ShapeLoaded = 5,
+    ShapeMissing = 6,
+    PlaceNumber = 7,
+    PlaceTaken = 8,
+    PlaceEmpty = 9,
+    TurnNumber = 10,
+    OffsetRange = 11,
+    SamePlace = 12,
+    ShortRoom = 13,
+    LengthForm = 14,
+    LengthRange = 15,
+    NotFinite = 16,
+    NotWhole = 17,
+    FloatRange = 18,
+    SizeZero = 19,
+    PlacedRange = 20,
+    FileLength = 21,
+    CountZero = 22,
+    ManyCorners = 23,
+    GapRefused = 24,
+    CommaRefused = 25,
+    BadText = 26,
+}
+
+impl Refusal {
+    // The number that the documents give a refusal.
+    pub fn number(self) -> u8
+        ensures { result ≡ number_of self }
+    {
+        self as u8
+    }
+}
 
 #[derive(Drop)]
 struct Sizes {

@@ -1,11 +1,9 @@
 -- The words behind a command's own, the numbers that they are, and which of a table's words a word is.
 -- `end` is where the command's own word ends: at a space, or at the line's end.
-use Rattle.std.specs.Prelude.{ℕ, ◌+◌, ◌≤◌, ◌≡◌, List, [], ◌∷◌, ◌⊎◌, ℤ, pos, length, drop}
+use Rattle.std.specs.Prelude.{ℕ, ◌+◌, ◌≤◌, ◌≡◌, List, [], ◌∷◌, ◌⊎◌, ℤ, pos, length, drop, Option, Some, None}
 use Rattle.std.proofs.Math.Logic.{ite}
 use Rattle.std.proofs.Math.Decide.{dec_lt}
 use Rattle.text_words.specs.Words.{words_of, AreNumbers, filled}
-use Rattle.line.specs.declared.parts.Index.{Index}
-use Rattle.line.specs.declared.parts.Index.TheVariants.{At, Bad}
 
 -- the words after the space at `end`, and none where the line ends there
 unfoldable pub behind : List ℕ → ℕ → List (List ℕ)
@@ -13,14 +11,14 @@ unfolding dec_lt
 behind line end = ite (dec_lt end (length line)) (words_of (drop (end + 1) line)) []
 
 -- each word is a number and they stand in the room's first cells, n of them; or one is none, or the room does not hold them
-abbrev pub NumbersIn : List (List ℕ) → List ℤ → List ℤ → Index → Type 0
-NumbersIn words room exit (At n) = (values : List ℤ) × AreNumbers words values × (n ≡ length values) × (n ≤ length room) × (exit ≡ filled values room)
-NumbersIn words room exit Bad = (values : List ℤ) → AreNumbers words values → length values ≤ length room → ⊥
+abbrev pub NumbersIn : List (List ℕ) → List ℤ → List ℤ → Option ℕ → Type 0
+NumbersIn words room exit (Some n) = (values : List ℤ) × AreNumbers words values × (n ≡ length values) × (n ≤ length room) × (exit ≡ filled values room)
+NumbersIn words room exit None = (values : List ℤ) → AreNumbers words values → length values ≤ length room → ⊥
 
 -- a number that is not negative
-abbrev pub NotNegative : ℤ → Index → Type 0
-NotNegative v (At n) = v ≡ pos n
-NotNegative v Bad = (n : ℕ) → v ≡ pos n → ⊥
+abbrev pub NotNegative : ℤ → Option ℕ → Type 0
+NotNegative v (Some n) = v ≡ pos n
+NotNegative v None = (n : ℕ) → v ≡ pos n → ⊥
 
 -- ---- tables of words
 -- the value beside the first word of the table that is w; where none is, `Else` says what is right

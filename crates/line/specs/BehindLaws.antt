@@ -1,16 +1,13 @@
 -- Laws of the words behind a command's own: a line is its first word and what is behind that, and a run of numbers is read or stuck.
 -- A word finds one value at most (`finds_once`).
-use Rattle.std.specs.Prelude.{ℕ, ◌+◌, ◌≤◌, ◌<◌, min, ◌≡◌, refl, List, [], ◌∷◌, ℤ, length, drop}
+use Rattle.std.specs.Prelude.{ℕ, ◌+◌, ◌≤◌, ◌<◌, min, ◌≡◌, refl, List, [], ◌∷◌, ℤ, length, drop, Option, Some, None}
 use Rattle.std.proofs.Common.{sym, ap, ◌∙◌, subst, inl, inr, add-one, arith, length-drop, drop-drop}
 use Rattle.std.proofs.Math.Logic.{if_pos, if_neg}
 use Rattle.std.proofs.Math.Decide.{dec_lt}
-use Rattle.text_words.specs.Words.{space_byte, first_word, words_of, Stuck, Listed}
+use Rattle.text_words.specs.Words.{space_byte, first_word, words_of, Listed}
 use Rattle.text_cut.proofs.CutLaws.{first_le, parts_last, parts_next}
 use Rattle.text_words.specs.ReadLaws.{never_stuck}
-use Rattle.text_words.specs.declared.Count.TheVariants.{Numbers}
 use Rattle.line.specs.Behind.{behind, NumbersIn, Finds}
-use Rattle.line.specs.declared.parts.Index.{Index}
-use Rattle.line.specs.declared.parts.Index.TheVariants.{At, Bad}
 
 pub behind_some : (line : List ℕ) (end : ℕ) → end < length line → behind line end ≡ words_of (drop (end + 1) line)
 unfolding behind
@@ -57,17 +54,15 @@ next-is line end next h e =
     behind_next line end h ∙ ap (λ (j : ℕ). first_word (drop (end + 1) line) ∷ behind line j) k
 
 -- ---- what was read of the words behind
-pub numbers-none : (line : List ℕ) (end : ℕ) (room : List ℤ) → length line ≤ end → NumbersIn (behind line end) room room (At 0)
-numbers-none line end room h = subst (λ (ws : List (List ℕ)). NumbersIn ws room room (At 0)) (sym (behind_none line end h)) ([], tt, refl, omega arith, refl)
+pub numbers-none : (line : List ℕ) (end : ℕ) (room : List ℤ) → length line ≤ end → NumbersIn (behind line end) room room (Some 0)
+numbers-none line end room h = subst (λ (ws : List (List ℕ)). NumbersIn ws room room (Some 0)) (sym (behind_none line end h)) ([], tt, refl, omega arith, refl)
 
-pub numbers_read : (line : List ℕ) (end : ℕ) (room exit : List ℤ) (n : ℕ) → end < length line → Listed (drop (end + 1) line) room exit (Numbers n) → NumbersIn (behind line end) room exit (At n)
-numbers_read line end room exit n h l = subst (λ (ws : List (List ℕ)). NumbersIn ws room exit (At n)) (sym (behind_some line end h)) l
-
-pub numbers_stuck : (line : List ℕ) (end : ℕ) (room exit : List ℤ) → end < length line → Stuck (drop (end + 1) line) room exit → NumbersIn (behind line end) room exit Bad
-numbers_stuck line end room exit h s = subst (λ (ws : List (List ℕ)). NumbersIn ws room exit Bad) (sym (behind_some line end h)) (λ values a f. never_stuck s values a f)
+pub numbers_listed : (line : List ℕ) (end : ℕ) (room exit : List ℤ) (r : Option ℕ) → end < length line → Listed (drop (end + 1) line) room exit r → NumbersIn (behind line end) room exit r
+numbers_listed line end room exit (Some n) h l = subst (λ (ws : List (List ℕ)). NumbersIn ws room exit (Some n)) (sym (behind_some line end h)) l
+numbers_listed line end room exit None h s = subst (λ (ws : List (List ℕ)). NumbersIn ws room exit None) (sym (behind_some line end h)) (λ values a f. never_stuck s values a f)
 
 -- as many as are said stand in the room
-pub numbers_fit : (ws : List (List ℕ)) (room exit : List ℤ) {i : Index} {n : ℕ} → i ≡ At n → NumbersIn ws room exit i → n ≤ length room
+pub numbers_fit : (ws : List (List ℕ)) (room exit : List ℤ) {i : Option ℕ} {n : ℕ} → i ≡ Some n → NumbersIn ws room exit i → n ≤ length room
 numbers_fit ws room exit e h = (subst (NumbersIn ws room exit) e h).3
 
 -- ---- one answer

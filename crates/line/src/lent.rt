@@ -3,8 +3,9 @@
 ghost use Rattle.std.specs.Prelude.{◌≡◌, ◌+◌, ◌*◌, ◌≤◌, min, length};
 ghost use Rattle.limits.specs.Limits;
 
-use crate::out;
-use crate::parts::{Index, only_index};
+use crate::out::Out;
+use crate::parts::only_index;
+use std::fmt;
 
 // "A line of more than 16,384 bytes gets one `?`" (docs/COMMANDS.md).
 pub const MOST_BYTES: usize = 16384;
@@ -49,39 +50,27 @@ pub fn marks() -> [u16; MOST_MARKS]
 }
 
 // `room N`: from 0 cells to all of them.
-pub fn room(
-    line: &[u8],
-    end: usize,
-    lent: &mut [usize; COUNTS],
-    out: &mut [u8],
-    at: usize,
-) -> usize {
-    let Index::At(n) = only_index(line, end) else {
-        return out::wrong(out, at);
+pub fn room(line: &[u8], end: usize, lent: &mut [usize; COUNTS], out: &mut Out<'_>) -> fmt::Result {
+    let Some(n) = only_index(line, end) else {
+        return out.wrong();
     };
     if MOST_ROOM < n {
-        return out::wrong(out, at);
+        return out.wrong();
     }
     lent[ROOM_LENT] = n;
-    out::done(out, at)
+    out.done()
 }
 
 // `lend N`: from 0 cells to all of them.
-pub fn lend(
-    line: &[u8],
-    end: usize,
-    lent: &mut [usize; COUNTS],
-    out: &mut [u8],
-    at: usize,
-) -> usize {
-    let Index::At(n) = only_index(line, end) else {
-        return out::wrong(out, at);
+pub fn lend(line: &[u8], end: usize, lent: &mut [usize; COUNTS], out: &mut Out<'_>) -> fmt::Result {
+    let Some(n) = only_index(line, end) else {
+        return out.wrong();
     };
     if MOST_MARKS < n {
-        return out::wrong(out, at);
+        return out.wrong();
     }
     lent[MARKS_LENT] = n;
-    out::done(out, at)
+    out.done()
 }
 
 // So many cells, and never more than there are.
@@ -89,8 +78,5 @@ pub fn at_most(n: usize, most: usize) -> usize
     ensures is { result ≡ min n most }
     ensures most { result ≤ most }
 {
-    if most < n {
-        return most;
-    }
-    n
+    n.min(most)
 }

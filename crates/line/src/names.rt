@@ -11,7 +11,7 @@ pub fn name_of(word: &[u8], names: &[u8]) -> usize
     let mut end: usize = 0;
     while end < names.len() {
         let next = text_words::word_end(names, end + 1);
-        if check::same(word, &names[end + 1..next]) {
+        if word == &names[end + 1..next] {
             return number;
         }
         end = next;

@@ -1,136 +1,78 @@
 // Answers, put into a lent buffer and written to standard output when it is nearly full.
-// Each function takes the place in the buffer and hands back the next one.
-ghost use Rattle.std.specs.Prelude.{◌≡◌, ◌≤◌, ◌+◌, length};
+// A program writes the answers out long before that, so that a person sees each: what is put here is what is not yet written.
+use limits::Refusal;
+use std::fmt;
+use std::fmt::Write;
 
 // What is put in one go is no longer than this: a number with its minus, a word, two hex digits.
 const LONGEST: usize = 64;
 
-// The buffer's bytes.
-const BUFFER: usize = 16384;
-
-// The digits of the greatest count.
-const COUNT_DIGITS: usize = 20;
-
-// A byte in hex.
-const BYTE_DIGITS: usize = 2;
-
 // The descriptor of standard output.
 const STANDARD_OUTPUT: i32 = 1;
 
-// The buffer.
-pub fn buffer() -> [u8; BUFFER]
-    ensures { 16384 ≡ length result }
-{
-    [0; BUFFER]
+// The buffer, and the place in it at which the next answer goes.
+#[derive(Drop)]
+pub struct Out<'a> {
+    pub buffer: &'a mut [u8],
+    pub at: usize,
 }
 
-// Writes out what stands before a place, and hands back the buffer's start.
-pub fn flush(out: &mut [u8], at: usize) -> usize
-    ensures { result ≡ 0 }
-{
-    if at <= out.len() {
-        io::write_all(STANDARD_OUTPUT, &out[0..at]);
+impl Out<'_> {
+    // Some bytes: all of them, or nothing where they are more than the buffer has.
+    pub fn put(&mut self, bytes: &[u8]) {
+        self.make_room();
+        let at = self.at;
+        self.at = text_put::put(self.buffer, at, bytes);
     }
-    0
-}
 
-// A place with room behind it: this one, or the start once what stands before it is written out.
-fn ready(out: &mut [u8], at: usize) -> usize
-    ensures { 64 ≤ length out.old → result + 64 ≤ length out.old }
-{
-    if out.len() < at {
-        return 0;
+    // Room behind the place: it is the start, once what stands before it is written out.
+    fn make_room(&mut self) {
+        let at = self.at;
+        let room = self.buffer.len();
+        if room < at {
+            self.at = 0;
+        } else if room - at < LONGEST {
+            io::write_all(STANDARD_OUTPUT, &self.buffer[..at]);
+            self.at = 0;
+        }
     }
-    if out.len() - at < LONGEST {
-        return flush(out, at);
+
+    // The answer of a command that is done and has nothing to tell.
+    pub fn done(&mut self) -> fmt::Result {
+        writeln!(self, "0")
     }
-    at
-}
 
-// A word of fixed bytes.
-pub fn word(out: &mut [u8], at: usize, text: &[u8]) -> usize {
-    let next = ready(out, at);
-    text_put::put(out, next, text)
-}
-
-// A number in decimal.
-pub fn number(out: &mut [u8], at: usize, n: i64) -> usize {
-    let next = ready(out, at);
-    text_put::put_number(out, next, n)
-}
-
-// One space, and a number in decimal.
-pub fn next_number(out: &mut [u8], at: usize, n: i64) -> usize {
-    let next = word(out, at, b" ");
-    number(out, next, n)
-}
-
-// A count in decimal.
-pub fn count(out: &mut [u8], at: usize, n: usize) -> usize {
-    let mut digits = [0u8; COUNT_DIGITS];
-    let k = io::decimal(n as u64, &mut digits);
-    word(out, at, &digits[..k])
-}
-
-// One space, and a count in decimal.
-pub fn next_count(out: &mut [u8], at: usize, n: usize) -> usize {
-    let next = word(out, at, b" ");
-    count(out, next, n)
-}
-
-// A number in hex, of at least `width` digits.
-pub fn hex(out: &mut [u8], at: usize, n: u32, width: usize) -> usize {
-    let next = ready(out, at);
-    text_put::put_hex(out, next, n, width)
-}
-
-// The end of an answer.
-pub fn end(out: &mut [u8], at: usize) -> usize {
-    word(out, at, b"\n")
-}
-
-// The answer of a command that is done and has nothing to tell.
-pub fn done(out: &mut [u8], at: usize) -> usize {
-    word(out, at, b"0\n")
-}
-
-// The answer to a line that is no command.
-pub fn wrong(out: &mut [u8], at: usize) -> usize {
-    word(out, at, b"?\n")
-}
-
-// The answer of a command that is done, or of one that could not be and so is none.
-pub fn done_if(out: &mut [u8], at: usize, is_done: bool) -> usize {
-    if is_done {
-        return done(out, at);
+    // The answer to a line that is no command.
+    pub fn wrong(&mut self) -> fmt::Result {
+        writeln!(self, "?")
     }
-    wrong(out, at)
-}
 
-// A refusal: its number alone.
-pub fn refused(out: &mut [u8], at: usize, refusal: u8) -> usize {
-    let next = number(out, at, refusal as i64);
-    end(out, next)
-}
-
-// The bytes of a text in hex, or a `-` where it has none.
-pub fn text(out: &mut [u8], at: usize, bytes: &[u8]) -> usize {
-    if bytes.len() == 0 {
-        return word(out, at, b"-");
+    // The answer of a command that is done, or of one that could not be and so is none.
+    pub fn done_if(&mut self, is_done: bool) -> fmt::Result {
+        if is_done { self.done() } else { self.wrong() }
     }
-    pairs(out, at, bytes)
-}
 
-fn pairs(out: &mut [u8], at: usize, bytes: &[u8]) -> usize {
-    let mut next = at;
-    let mut i: usize = 0;
-    while i < bytes.len() {
-        next = hex_byte(out, next, bytes[i]);
-        i += 1;
+    // A refusal: its number alone.
+    pub fn refused(&mut self, refusal: Refusal) -> fmt::Result {
+        let number = refusal.number();
+        writeln!(self, "{number}")
     }
-    next
+
+    // The bytes of a text in hex, or a `-` where it has none.
+    pub fn text(&mut self, bytes: &[u8]) -> fmt::Result {
+        if bytes.is_empty() {
+            return write!(self, "-");
+        }
+        for byte in bytes {
+            write!(self, "{byte:02x}")?;
+        }
+        Ok(())
+    }
 }
 
-fn hex_byte(out: &mut [u8], at: usize, byte: u8) -> usize {
-    hex(out, at, byte as u32, BYTE_DIGITS)
+impl Write for Out<'_> {
+    fn write_str(&mut self, text: &str) -> fmt::Result {
+        self.put(text.as_bytes());
+        Ok(())
+    }
 }

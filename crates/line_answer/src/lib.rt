@@ -6,22 +6,23 @@ ghost use Rattle.std.specs.Prelude.{◌≡◌, false};
 ghost use Rattle.desk_state.specs.Desk.{desk_of};
 ghost use Rattle.line_answer.specs.Answered.{kept_of, Answered};
 
-use line::{lent, out};
+use line::lent;
+use line::out::Out;
 use line_ask::asked;
 use line_command::{Line, Other, says};
 use line_read::{files, floats, lists, texts};
 use line_save::save;
 use line_spoil::Cell;
 use line_tell::{load_file, tell};
+use std::fmt;
 use std::rt::Files;
 
-// Puts the answer to a line, and hands back the next place.
+// Puts the answer to a line.
 pub fn answer(
     rt: &impl Files,
     trial: bool,
     line: &[u8],
-    out: &mut [u8],
-    at: usize,
+    out: &mut Out<'_>,
     texts: &mut [u8],
     numbers: &mut [i32],
     lent: &mut [usize; lent::COUNTS],
@@ -30,24 +31,24 @@ pub fn answer(
     rows: &mut [u8; limits::ROWS],
     book: &mut [u32; limits::BOOK],
     marks: &mut [u16],
-) -> usize
+) -> fmt::Result
     ensures { Answered trial line.now numbers.old
         (kept_of shapes.old places.old rows.old book.old marks.old lent.old)
         (kept_of shapes.new places.new rows.new book.new marks.new lent.new) }
 {
     match says(line, numbers) {
         Line::Tell(command, count) => tell(
-            command, count, numbers, lent, shapes, places, rows, book, marks, out, at,
+            command, count, numbers, lent, shapes, places, rows, book, marks, out,
         ),
-        Line::Ask(a) => asked::ask(a, texts, lent, shapes, places, rows, book, marks, out, at),
-        Line::Spoil(cell) => spoil(trial, cell, shapes, places, rows, book, marks, out, at),
+        Line::Ask(a) => asked::ask(a, texts, lent, shapes, places, rows, book, marks, out),
+        Line::Spoil(cell) => spoil(trial, cell, shapes, places, rows, book, marks, out),
         Line::LoadFile(kind) => load_file(
-            rt, kind, line, numbers, lent, shapes, places, rows, book, marks, out, at,
+            rt, kind, line, numbers, lent, shapes, places, rows, book, marks, out,
         ),
         Line::SaveFile => save(
-            rt, line, texts, lent, shapes, places, rows, book, marks, out, at,
+            rt, line, texts, lent, shapes, places, rows, book, marks, out,
         ),
-        Line::Other(o) => other(trial, o, line, out, at, texts, numbers, lent),
+        Line::Other(o) => other(trial, o, line, out, texts, numbers, lent),
     }
 }
 
@@ -56,29 +57,28 @@ fn other(
     trial: bool,
     command: Other,
     line: &[u8],
-    out: &mut [u8],
-    at: usize,
+    out: &mut Out<'_>,
     texts: &mut [u8],
     numbers: &mut [i32],
     lent: &mut [usize; lent::COUNTS],
-) -> usize
+) -> fmt::Result
     ensures { trial ≡ false → lent.new ≡ lent.old }
 {
     let end = text_words::word_end(line, 0);
     match command {
-        Other::Length => texts::length(line, end, out, at),
-        Other::MenuLine => texts::line(line, end, texts, out, at),
-        Other::Lists => lists::lists(line, end, numbers, out, at),
-        Other::Scan => floats::scan(line, end, out, at),
-        Other::Show => floats::show(line, end, out, at),
-        Other::Blank => floats::blank(line, end, lent, numbers, out, at),
-        Other::Stl => files::stl(line, end, texts, lent, numbers, out, at),
-        Other::Triangle => files::triangle(line, end, texts, out, at),
-        Other::Off => files::off(line, end, texts, lent, numbers, out, at),
-        Other::Room => room(trial, line, end, lent, out, at),
-        Other::Lend => lend(trial, line, end, lent, out, at),
-        Other::Nothing => at,
-        Other::Unknown => out::wrong(out, at),
+        Other::Length => texts::length(line, end, out),
+        Other::MenuLine => texts::line(line, end, texts, out),
+        Other::Lists => lists::lists(line, end, numbers, out),
+        Other::Scan => floats::scan(line, end, out),
+        Other::Show => floats::show(line, end, out),
+        Other::Blank => floats::blank(line, end, lent, numbers, out),
+        Other::Stl => files::stl(line, end, texts, lent, numbers, out),
+        Other::Triangle => files::triangle(line, end, texts, out),
+        Other::Off => files::off(line, end, texts, lent, numbers, out),
+        Other::Room => room(trial, line, end, lent, out),
+        Other::Lend => lend(trial, line, end, lent, out),
+        Other::Nothing => Ok(()),
+        Other::Unknown => out.wrong(),
     }
 }
 
@@ -91,16 +91,15 @@ fn spoil(
     rows: &mut [u8; limits::ROWS],
     book: &mut [u32; limits::BOOK],
     marks: &mut [u16],
-    out: &mut [u8],
-    at: usize,
-) -> usize
+    out: &mut Out<'_>,
+) -> fmt::Result
     ensures { trial ≡ false → desk_of shapes.new places.new rows.new book.new marks.new
         ≡ desk_of shapes.old places.old rows.old book.old marks.old }
 {
     if trial {
-        return line_spoil::spoil(cell, shapes, places, rows, book, marks, out, at);
+        return line_spoil::spoil(cell, shapes, places, rows, book, marks, out);
     }
-    out::wrong(out, at)
+    out.wrong()
 }
 
 // `room N`, a test tool.
@@ -109,15 +108,14 @@ fn room(
     line: &[u8],
     end: usize,
     lent: &mut [usize; lent::COUNTS],
-    out: &mut [u8],
-    at: usize,
-) -> usize
+    out: &mut Out<'_>,
+) -> fmt::Result
     ensures { trial ≡ false → lent.new ≡ lent.old }
 {
     if trial {
-        return lent::room(line, end, lent, out, at);
+        return lent::room(line, end, lent, out);
     }
-    out::wrong(out, at)
+    out.wrong()
 }
 
 // `lend N`, a test tool.
@@ -126,13 +124,12 @@ fn lend(
     line: &[u8],
     end: usize,
     lent: &mut [usize; lent::COUNTS],
-    out: &mut [u8],
-    at: usize,
-) -> usize
+    out: &mut Out<'_>,
+) -> fmt::Result
     ensures { trial ≡ false → lent.new ≡ lent.old }
 {
     if trial {
-        return lent::lend(line, end, lent, out, at);
+        return lent::lend(line, end, lent, out);
     }
-    out::wrong(out, at)
+    out.wrong()
 }

@@ -1,6 +1,6 @@
 -- Laws of a line's command: a word that takes as many numbers as there are gets its command, and another count gets none.
 -- A line has one command (`command_once`), and says one thing (`says_once`).
-use Rattle.std.specs.Prelude.{ℕ, ◌≤◌, ◌<◌, ◌≡◌, List, [], ◌∷◌, ℤ, length, get_or, take, drop}
+use Rattle.std.specs.Prelude.{ℕ, ◌≤◌, ◌<◌, ◌≡◌, List, [], ◌∷◌, ℤ, length, get_or, take, drop, Some}
 use Rattle.std.proofs.Common.{sym, ap, ◌∙◌, subst, inl, inr, arith}
 use Rattle.std.proofs.Math.Logic.{if_pos, if_neg}
 use Rattle.std.proofs.Math.Decide.{ℕ_discrete, dec_le}
@@ -9,7 +9,6 @@ use Rattle.text_words.specs.Words.{first_word, words_of}
 use Rattle.text_words.specs.ReadLaws.{numbers_once}
 use Rattle.line.specs.Behind.{behind, NumbersIn, Finds, NotIn}
 use Rattle.line.specs.BehindLaws.{words_are, finds_once}
-use Rattle.line.specs.declared.parts.Index.TheVariants.{At}
 use Rattle.line_spoil.specs.CellLaws.{cell_once}
 use Rattle.line_command.specs.Lines.{unknown, at, takes, load_of, desk_words, other_words, Unknowing, OfDesk, OfWord, PassedOver, CommandOf, most_bytes, LineSays}
 use Rattle.desk.specs.declared.Command.TheVariants.{Load}
@@ -33,7 +32,7 @@ unfolding load_of
 load_some numbers n = sym (if_neg (ℕ_discrete (length numbers) 0) n _ _)
 
 -- ---- the words behind, as they were read
-pub desk_numbers : (word : List ℕ) (ws : List (List ℕ)) (room exit : List ℤ) (n : ℕ) (c : Line) → NumbersIn ws room exit (At n) → {k : ℕ} → k ≡ n
+pub desk_numbers : (word : List ℕ) (ws : List (List ℕ)) (room exit : List ℤ) (n : ℕ) (c : Line) → NumbersIn ws room exit (Some n) → {k : ℕ} → k ≡ n
     → Finds word (desk_words (take k exit)) Unknowing c → OfDesk word ws room exit c
 desk_numbers word ws room exit n c h {k} ek f =
     let e : take k exit ≡ h.0 = ap (λ (j : ℕ). take j exit) (ek ∙ h.2) ∙ ap (take (length h.0)) h.4 ∙ take-append_seam h.0 (drop (length h.0) room) in

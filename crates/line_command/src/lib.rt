@@ -10,7 +10,7 @@ use desk::Command;
 use line::kinds::FileKind;
 use line::lent::MOST_BYTES;
 use line::names::name_of;
-use line::parts::{Index, numbers_behind};
+use line::parts::numbers_behind;
 use line_spoil::{Cell, cell_of};
 use pieces::placement::{Offset, Placement};
 
@@ -130,7 +130,7 @@ fn of_word(word: &[u8], line: &[u8], end: usize, numbers: &mut [i32]) -> Line
 fn of_desk(word: &[u8], line: &[u8], end: usize, numbers: &mut [i32]) -> Line
     ensures { OfDesk word.now (behind line.now end) numbers.old numbers.new result }
 {
-    let Index::At(n) = numbers_behind(line, end, numbers) else {
+    let Some(n) = numbers_behind(line, end, numbers) else {
         return Line::Other(Other::Unknown);
     };
     numbered(word, &numbers[0..n])

@@ -7,8 +7,9 @@ ghost use Rattle.line_input.specs.Input.{bare as Input·bare, Holds};
 ghost use Rattle.line_answer.specs.Answered.{kept_of};
 ghost use Rattle.line_feed.specs.Served.{Serves, Feeds, FeedsUpTo};
 
+use line::lent;
 use line::lent::{MOST_BYTES, at_most};
-use line::{lent, out};
+use line::out::Out;
 use line_answer::answer;
 use line_input::{LINE_END, bare, hold};
 use line_io::write_out;
@@ -21,93 +22,15 @@ pub struct Mode {
     pub echo: bool,
 }
 
-// How many bytes are kept of a line whose end did not come yet, and where the next answer goes: past the buffer's end where the answers can
-// no longer be written.
-#[derive(Drop)]
-pub struct Place {
-    pub kept: usize,
-    pub at: usize,
-}
-
-// Feeds a piece of the input, byte by byte, as long as the answers can be written.
+// Feeds a piece of the input, byte by byte, as long as the answers can be written: how many bytes are kept then of a line whose end did not
+// come yet. Where the answers can no longer be written the next of them would go past the buffer's end.
 pub fn feed(
     rt: &(impl Files + Print + Eprint),
     mode: Mode,
     piece: &[u8],
-    start: Place,
+    start: usize,
     held: &mut [u8],
-    out: &mut [u8],
-    texts: &mut [u8],
-    numbers: &mut [i32],
-    lent: &mut [usize; lent::COUNTS],
-    shapes: &mut [i32; limits::SHAPES_LENGTH],
-    places: &mut [i32; limits::PLACES_LENGTH],
-    rows: &mut [u8; limits::ROWS],
-    book: &mut [u32; limits::BOOK],
-    marks: &mut [u16],
-) -> Place
-    ensures { (part : List ℕ) → Holds held.old start.kept part → FeedsUpTo mode.trial (length numbers.old) part piece.now
-        (kept_of shapes.old places.old rows.old book.old marks.old lent.old)
-        (kept_of shapes.new places.new rows.new book.new marks.new lent.new)
-        held.new result.kept result.at (length out.old) }
-{
-    let mut place = start;
-    let mut i: usize = 0;
-    while i < piece.len() {
-        if out.len() < place.at {
-            return place;
-        }
-        place = feed_byte(
-            rt, mode, piece[i], place, held, out, texts, numbers, lent, shapes, places, rows, book,
-            marks,
-        );
-        i += 1;
-    }
-    place
-}
-
-// A byte that ends a line has it answered; any other is kept.
-fn feed_byte(
-    rt: &(impl Files + Print + Eprint),
-    mode: Mode,
-    byte: u8,
-    place: Place,
-    held: &mut [u8],
-    out: &mut [u8],
-    texts: &mut [u8],
-    numbers: &mut [i32],
-    lent: &mut [usize; lent::COUNTS],
-    shapes: &mut [i32; limits::SHAPES_LENGTH],
-    places: &mut [i32; limits::PLACES_LENGTH],
-    rows: &mut [u8; limits::ROWS],
-    book: &mut [u32; limits::BOOK],
-    marks: &mut [u16],
-) -> Place
-    ensures { (part : List ℕ) → Holds held.old place.kept part → Feeds mode.trial (length numbers.old) part (byte ∷ [])
-        (kept_of shapes.old places.old rows.old book.old marks.old lent.old)
-        (kept_of shapes.new places.new rows.new book.new marks.new lent.new)
-        held.new result.kept }
-{
-    let kept = place.kept;
-    let at = place.at;
-    if byte == LINE_END {
-        let next = answer_held(
-            rt, mode, held, kept, out, at, texts, numbers, lent, shapes, places, rows, book, marks,
-        );
-        return Place { kept: 0, at: next };
-    }
-    let more = hold(held, kept, byte);
-    Place { kept: more, at }
-}
-
-// Answers the line that is kept.
-pub fn answer_held(
-    rt: &(impl Files + Print + Eprint),
-    mode: Mode,
-    held: &[u8],
-    kept: usize,
-    out: &mut [u8],
-    at: usize,
+    out: &mut Out<'_>,
     texts: &mut [u8],
     numbers: &mut [i32],
     lent: &mut [usize; lent::COUNTS],
@@ -117,6 +40,72 @@ pub fn answer_held(
     book: &mut [u32; limits::BOOK],
     marks: &mut [u16],
 ) -> usize
+    ensures { (part : List ℕ) → Holds held.old start part → FeedsUpTo mode.trial (length numbers.old) part piece.now
+        (kept_of shapes.old places.old rows.old book.old marks.old lent.old)
+        (kept_of shapes.new places.new rows.new book.new marks.new lent.new)
+        held.new result out.new.at (length out.new.buffer.now) }
+{
+    let mut kept = start;
+    for byte in piece {
+        let at = out.at;
+        if out.buffer.len() < at {
+            return kept;
+        }
+        kept = feed_byte(
+            rt, mode, *byte, kept, held, out, texts, numbers, lent, shapes, places, rows, book,
+            marks,
+        );
+    }
+    kept
+}
+
+// A byte that ends a line has it answered; any other is kept.
+fn feed_byte(
+    rt: &(impl Files + Print + Eprint),
+    mode: Mode,
+    byte: u8,
+    kept: usize,
+    held: &mut [u8],
+    out: &mut Out<'_>,
+    texts: &mut [u8],
+    numbers: &mut [i32],
+    lent: &mut [usize; lent::COUNTS],
+    shapes: &mut [i32; limits::SHAPES_LENGTH],
+    places: &mut [i32; limits::PLACES_LENGTH],
+    rows: &mut [u8; limits::ROWS],
+    book: &mut [u32; limits::BOOK],
+    marks: &mut [u16],
+) -> usize
+    ensures { (part : List ℕ) → Holds held.old kept part → Feeds mode.trial (length numbers.old) part (byte ∷ [])
+        (kept_of shapes.old places.old rows.old book.old marks.old lent.old)
+        (kept_of shapes.new places.new rows.new book.new marks.new lent.new)
+        held.new result }
+{
+    if byte == LINE_END {
+        answer_held(
+            rt, mode, held, kept, out, texts, numbers, lent, shapes, places, rows, book, marks,
+        );
+        return 0;
+    }
+    hold(held, kept, byte)
+}
+
+// Answers the line that is kept.
+pub fn answer_held(
+    rt: &(impl Files + Print + Eprint),
+    mode: Mode,
+    held: &[u8],
+    kept: usize,
+    out: &mut Out<'_>,
+    texts: &mut [u8],
+    numbers: &mut [i32],
+    lent: &mut [usize; lent::COUNTS],
+    shapes: &mut [i32; limits::SHAPES_LENGTH],
+    places: &mut [i32; limits::PLACES_LENGTH],
+    rows: &mut [u8; limits::ROWS],
+    book: &mut [u32; limits::BOOK],
+    marks: &mut [u16],
+)
     ensures { (part : List ℕ) → Holds held.now kept part → Serves mode.trial (length numbers.old) (Input·bare part)
         (kept_of shapes.old places.old rows.old book.old marks.old lent.old)
         (kept_of shapes.new places.new rows.new book.new marks.new lent.new) }
@@ -125,46 +114,32 @@ pub fn answer_held(
     let echo = mode.echo;
     let n = at_most(kept, held.len());
     let line = bare(&held[0..n]);
-    let next = echoed(echo, line, out, at);
-    let next = answer(
-        rt, trial, line, out, next, texts, numbers, lent, shapes, places, rows, book, marks,
-    );
-    settled(rt, out, next)
+    echoed(echo, line, out);
+    answer(
+        rt, trial, line, out, texts, numbers, lent, shapes, places, rows, book, marks,
+    )
+    .is_ok();
+    settle(rt, out);
 }
 
 // Writes the answers out once they fill half of the buffer. The longest answer fits the other half of the program's: a report of 8,128
 // contacts at 43 bytes each, behind a line of 16,384.
-fn settled(rt: &(impl Print + Eprint), out: &mut [u8], at: usize) -> usize {
-    if at <= out.len() / 2 {
-        return at;
+fn settle(rt: &(impl Print + Eprint), out: &mut Out<'_>) {
+    let at = out.at;
+    if out.buffer.len() / 2 < at {
+        out.at = write_out(rt, out.buffer, at);
     }
-    write_out(rt, out, at)
 }
 
 // Puts a line before its answer, behind `> `, where that is asked for. One that is passed over gets no answer; of one that is too long the
 // first bytes are put.
-fn echoed(echo: bool, line: &[u8], out: &mut [u8], at: usize) -> usize {
-    if !echo {
-        return at;
+fn echoed(echo: bool, line: &[u8], out: &mut Out<'_>) {
+    if !echo || line.is_empty() || line[0] == b'#' {
+        return;
     }
-    if line.len() == 0 {
-        return at;
+    out.put(b"> ");
+    for byte in line.iter().take(MOST_BYTES) {
+        out.put(&[*byte]);
     }
-    if line[0] == b'#' {
-        return at;
-    }
-    let next = out::word(out, at, b"> ");
-    let n = at_most(line.len(), MOST_BYTES);
-    let next = each_byte(&line[0..n], out, next);
-    out::end(out, next)
-}
-
-fn each_byte(bytes: &[u8], out: &mut [u8], at: usize) -> usize {
-    let mut next = at;
-    let mut i: usize = 0;
-    while i < bytes.len() {
-        next = out::word(out, next, &bytes[i..i + 1]);
-        i += 1;
-    }
-    next
+    out.put(b"\n");
 }

@@ -1,21 +1,18 @@
 -- Laws of what a line with a file asks: the corners that the reader wrote behind the room's first cell are those behind the first number.
 -- And the second word of a line, as it was read, is the shape's.
-use Rattle.std.specs.Prelude.{ℕ, ◌+◌, ◌*◌, ◌≤◌, ◌<◌, min, ◌≡◌, List, [], ◌∷◌, ◌++◌, ℤ, pos, length, take, drop, get_or}
+use Rattle.std.specs.Prelude.{ℕ, ◌+◌, ◌*◌, ◌≤◌, ◌<◌, min, ◌≡◌, List, [], ◌∷◌, ◌++◌, ℤ, pos, length, take, drop, get_or, Some}
 use Rattle.std.proofs.Common.{sym, ap, ◌∙◌, subst, append_assoc, add-one, arith}
 use Rattle.std.proofs.Math.Seq.{take-append_seam}
 use Rattle.limits.specs.Limits
 use Rattle.limits.specs.Lowest.{Lowest}
 use Rattle.scans_stl.specs.Stl.{numbers_of}
-use Rattle.scans_stl_corners.specs.Kept.{kept_of, whole_refusals, ShapeReadAs}
+use Rattle.scans_stl_corners.specs.Kept.{kept_of, whole_refusals, ShapeRead, ShapeReadAs}
 use Rattle.scans_stl_corners.specs.WithinLaws.{numbers_long}
-use Rattle.scans_stl_corners.specs.declared.ShapeRead.{ShapeRead}
 use Rattle.off_number.specs.OffNumber.{InSteps}
 use Rattle.off_text.specs.Off.{word_at, after_counts}
-use Rattle.off_read.specs.Corners.{corner_numbers, off_refusals, OffReadAs}
-use Rattle.off_read.specs.declared.OffRead.{OffRead}
+use Rattle.off_read.specs.Corners.{corner_numbers, off_refusals, OffRead, OffReadAs}
 use Rattle.text_number.specs.Numbers.{Reads}
-use Rattle.text_number.specs.declared.Number.TheVariants.{Value}
-use Rattle.text_words.specs.Words.{first_word, words_of}
+use Rattle.text_words.specs.Words.{first_word}
 use Rattle.line.specs.Behind.{behind}
 use Rattle.line.specs.BehindLaws.{words_are, next-is, behind_some}
 use Rattle.line_file.specs.Requests.{NamesShape, ReadStl, ReadOff, OfFile, Requests}
@@ -66,7 +63,7 @@ text_behind text numbers part {after} more {r} h z l =
 -- ---- the shape that a line names
 -- its second word, which ends before the line does
 pub names_shape : (line : List ℕ) (end next : ℕ) {word : List ℕ} {s : ℤ} → end ≡ length (first_word line) → end < length line
-    → next ≡ min (end + 1) (length line) + length (first_word (drop (end + 1) line)) → next < length line → word ≡ first_word (drop (end + 1) line) → Reads word (Value s) → NamesShape line s
+    → next ≡ min (end + 1) (length line) + length (first_word (drop (end + 1) line)) → next < length line → word ≡ first_word (drop (end + 1) line) → Reads word (Some s) → NamesShape line s
 names_shape line end next {word} {s} e h n l w r =
     let back = drop (next + 1) line in
     let path : behind line next ≡ first_word back ∷ behind back (length (first_word back)) = behind_some line next l ∙ words_are back in

@@ -1,6 +1,6 @@
 -- What a line with a file asks to be loaded: the number that it names, and the corners of some file of its kind, whatever bytes the system handed over.
 -- `Requests` is all that is promised of it; the rest says that what is read lies within its room.
-use Rattle.std.specs.Prelude.{ℕ, ◌≤◌, ◌<◌, ◌≡◌, List, ◌∷◌, ℤ, pos, length, take, drop, get_or}
+use Rattle.std.specs.Prelude.{ℕ, ◌≤◌, ◌<◌, ◌≡◌, List, ◌∷◌, ℤ, pos, length, take, drop, get_or, Some}
 use Rattle.limits.specs.Limits
 use Rattle.limits.specs.Lowest.{Lowest}
 use Rattle.scans_stl.specs.Stl.{numbers_of}
@@ -9,7 +9,6 @@ use Rattle.off_number.specs.OffNumber.{InSteps}
 use Rattle.off_text.specs.Off.{IsOff, word_at, after_counts}
 use Rattle.off_read.specs.Corners.{corner_numbers, off_refusals}
 use Rattle.text_number.specs.Numbers.{Reads}
-use Rattle.text_number.specs.declared.Number.TheVariants.{Value}
 use Rattle.text_words.specs.Words.{words_of}
 use Rattle.line.specs.declared.kinds.FileKind.{FileKind}
 use Rattle.line.specs.declared.kinds.FileKind.TheVariants.{Stl, Off}
@@ -29,7 +28,7 @@ pub record NamesShape (line : List ℕ) (s : ℤ) : Type 0 where
   pub path : List (List ℕ)
   pub words : words_of line ≡ command ∷ number ∷ path
   pub some : 1 ≤ length path
-  pub reads : Reads number (Value s)
+  pub reads : Reads number (Some s)
 
 -- the path begins behind the number, within the line
 abbrev pub ShapePathOf : List ℕ → ShapePath → Type 0

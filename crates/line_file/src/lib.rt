@@ -10,7 +10,7 @@ use line::kinds::FileKind;
 use std::fs;
 use std::io::Read;
 use std::rt::Files;
-use text_number::{Number, read_number};
+use text_number::read_number;
 
 // What a line asks to be loaded: a shape's number, and how many numbers stand in the room, the corners' behind the first; the reader's
 // refusal; or nothing, where the line is no command or its file cannot be had.
@@ -63,7 +63,7 @@ pub fn shape_and_path(line: &[u8]) -> ShapePath
     if line.len() <= next {
         return ShapePath::Bad;
     }
-    let Number::Value(shape) = read_number(&line[end + 1..next]) else {
+    let Some(shape) = read_number(&line[end + 1..next]) else {
         return ShapePath::Bad;
     };
     ShapePath::At(shape, next + 1)
@@ -104,13 +104,10 @@ fn from_stl(shape: i32, file: &[u8], numbers: &mut [i32]) -> Request
     if numbers.len() == 0 {
         return Request::Bad;
     }
-    let written = scans_stl_corners::corners(file, &mut numbers[1..]);
-    let number = written.number;
-    if number != limits::DONE {
-        return Request::Refused(number);
+    match scans_stl_corners::corners(file, &mut numbers[1..]) {
+        Ok(count) => Request::Load(shape, count + 1),
+        Err(refusal) => Request::Refused(refusal.number()),
     }
-    let count = written.count;
-    Request::Load(shape, count + 1)
 }
 
 fn from_off(shape: i32, text: &[u8], numbers: &mut [i32]) -> Request
@@ -119,13 +116,10 @@ fn from_off(shape: i32, text: &[u8], numbers: &mut [i32]) -> Request
     if numbers.len() == 0 {
         return Request::Bad;
     }
-    let read = off_read::corners(text, &mut numbers[1..]);
-    let refusal = read.number;
-    if refusal != limits::DONE {
-        return Request::Refused(refusal);
+    match off_read::corners(text, &mut numbers[1..]) {
+        Ok(n) => Request::Load(shape, n + 1),
+        Err(refusal) => Request::Refused(refusal.number()),
     }
-    let n = read.count;
-    Request::Load(shape, n + 1)
 }
 
 // Only a path that is UTF-8 has a file.

@@ -4,11 +4,15 @@ ghost use Rattle.std.specs.Prelude.{◌≡◌};
 ghost use Rattle.std.specs.Float.{binary32};
 ghost use Rattle.std.specs.Float.Ieee.{of_bits};
 
-use crate::listing::{listed, wide_number};
+use crate::listing::listed;
+use limits::Refusal;
+use line::lent;
 use line::lent::at_most;
 use line::names::name_of;
-use line::parts::{WordEnds, after, only_number, three_words};
-use line::{lent, out};
+use line::out::Out;
+use line::parts::{after, only_number, three_words};
+use std::fmt;
+use std::fmt::Write;
 
 // The floats of three bit patterns.
 #[derive(Drop)]
@@ -29,49 +33,34 @@ const SIGN: u32 = 0x8000_0000;
 
 const INFINITY: u32 = 0x7f80_0000;
 
-// The hex digits of a bit pattern.
-const PATTERN_DIGITS: usize = 8;
-
 // `scan h h h`: the steps of a scanned point.
-pub fn scan(line: &[u8], end: usize, out: &mut [u8], at: usize) -> usize {
+pub fn scan(line: &[u8], end: usize, out: &mut Out<'_>) -> fmt::Result {
     match read_floats(line, after(line, end)) {
-        Floats::Three(x, y, z) => scanned(scans::scan_point(scans::Point { x, y, z }), out, at),
-        Floats::Bad => out::wrong(out, at),
+        Floats::Three(x, y, z) => scanned(scans::scan_point(scans::Point { x, y, z }), out),
+        Floats::Bad => out.wrong(),
     }
 }
 
-fn scanned(s: scans::Scanned, out: &mut [u8], at: usize) -> usize {
-    let number = s.number;
-    if number != limits::DONE {
-        return out::refused(out, at, number);
+fn scanned(scanned: Result<scans::Steps, Refusal>, out: &mut Out<'_>) -> fmt::Result {
+    match scanned {
+        Ok(steps) => writeln!(out, "0 {} {} {}", steps.x, steps.y, steps.z),
+        Err(refusal) => out.refused(refusal),
     }
-    let x = s.x;
-    let y = s.y;
-    let z = s.z;
-    let next = out::word(out, at, b"0");
-    let next = out::next_number(out, next, wide_number(x));
-    let next = out::next_number(out, next, wide_number(y));
-    let next = out::next_number(out, next, wide_number(z));
-    out::end(out, next)
 }
 
 // `show STEPS`: the bit pattern of the millimetres shown.
-pub fn show(line: &[u8], end: usize, out: &mut [u8], at: usize) -> usize {
+pub fn show(line: &[u8], end: usize, out: &mut Out<'_>) -> fmt::Result {
     match only_number(line, end) {
-        text_number::Number::Value(steps) => shown(scans::shown(steps), out, at),
-        text_number::Number::Bad => out::wrong(out, at),
+        Some(steps) => shown(scans::shown(steps), out),
+        None => out.wrong(),
     }
 }
 
-fn shown(m: scans::Millimetres, out: &mut [u8], at: usize) -> usize {
-    let number = m.number;
-    if number != limits::DONE {
-        return out::refused(out, at, number);
+fn shown(millimetres: Result<f32, Refusal>, out: &mut Out<'_>) -> fmt::Result {
+    match millimetres {
+        Ok(value) => writeln!(out, "0 {:08x}", scans::pattern(value)),
+        Err(refusal) => out.refused(refusal),
     }
-    let value = m.value;
-    let next = out::word(out, at, b"0 ");
-    let next = out::hex(out, next, scans::pattern(value), PATTERN_DIGITS);
-    out::end(out, next)
 }
 
 // `blank box h h h`, or `wedge` or `corner`: the corners, in as many of the numbers as are lent.
@@ -80,24 +69,20 @@ pub fn blank(
     end: usize,
     lent: &[usize; lent::COUNTS],
     numbers: &mut [i32],
-    out: &mut [u8],
-    at: usize,
-) -> usize {
+    out: &mut Out<'_>,
+) -> fmt::Result {
     let BlankRead::Blank(b) = read_blank(line, end) else {
-        return out::wrong(out, at);
+        return out.wrong();
     };
     let room = at_most(lent[lent::ROOM_LENT], numbers.len());
-    corners(b, &mut numbers[0..room], out, at)
+    corners(b, &mut numbers[0..room], out)
 }
 
-fn corners(b: blanks::Blank, room: &mut [i32], out: &mut [u8], at: usize) -> usize {
-    let written = blanks::corners(b, room);
-    let number = written.number;
-    if number != limits::DONE {
-        return out::refused(out, at, number);
+fn corners(b: blanks::Blank, room: &mut [i32], out: &mut Out<'_>) -> fmt::Result {
+    match blanks::corners(b, room) {
+        Ok(count) => listed(&room[0..count], out),
+        Err(refusal) => out.refused(refusal),
     }
-    let count = written.count;
-    listed(&room[0..count], out, at)
 }
 
 fn read_blank(line: &[u8], end: usize) -> BlankRead {
@@ -135,20 +120,20 @@ fn of_kind(name: &[u8], width: f32, depth: f32, height: f32) -> BlankRead {
 
 // The words from a place to the line's end, if they are three bit patterns.
 fn read_floats(line: &[u8], start: usize) -> Floats {
-    let WordEnds::At(a, b) = three_words(line, start) else {
+    let Some((a, b)) = three_words(line, start) else {
         return Floats::Bad;
     };
     three_floats(&line[start..a], &line[a + 1..b], &line[b + 1..])
 }
 
 fn three_floats(first: &[u8], second: &[u8], third: &[u8]) -> Floats {
-    let text_hex::Pattern::Value(x) = text_hex::read_pattern(first) else {
+    let Some(x) = text_hex::read_pattern(first) else {
         return Floats::Bad;
     };
-    let text_hex::Pattern::Value(y) = text_hex::read_pattern(second) else {
+    let Some(y) = text_hex::read_pattern(second) else {
         return Floats::Bad;
     };
-    let text_hex::Pattern::Value(z) = text_hex::read_pattern(third) else {
+    let Some(z) = text_hex::read_pattern(third) else {
         return Floats::Bad;
     };
     Floats::Three(float_of(x), float_of(y), float_of(z))

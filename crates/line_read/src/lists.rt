@@ -3,31 +3,32 @@
 ghost use Rattle.std.specs.Prelude.{length};
 ghost use Rattle.line_read.specs.ReadWithin.{ListWithin};
 
-use line::out;
-use line::parts::{Index, not_negative, numbers_behind};
+use line::out::Out;
+use line::parts::{not_negative, numbers_behind};
 use line_verdict::pair_answer;
+use std::fmt;
 
 // The gap is one number, and the lists stand behind it.
 const LISTS: usize = 1;
 
 // `lists G N n .. M n ..`: every word is a number, the gap comes first, and each of the two counts is kept.
-pub fn lists(line: &[u8], end: usize, room: &mut [i32], out: &mut [u8], at: usize) -> usize {
-    let Index::At(n) = numbers_behind(line, end, room) else {
-        return out::wrong(out, at);
+pub fn lists(line: &[u8], end: usize, room: &mut [i32], out: &mut Out<'_>) -> fmt::Result {
+    let Some(n) = numbers_behind(line, end, room) else {
+        return out.wrong();
     };
-    both_lists(&room[0..n], out, at)
+    both_lists(&room[0..n], out)
 }
 
 // The line's numbers: the gap, one list behind the other, and nothing behind the second.
-fn both_lists(numbers: &[i32], out: &mut [u8], at: usize) -> usize {
-    let Index::At(first) = list_end(numbers, LISTS) else {
-        return out::wrong(out, at);
+fn both_lists(numbers: &[i32], out: &mut Out<'_>) -> fmt::Result {
+    let Some(first) = list_end(numbers, LISTS) else {
+        return out.wrong();
     };
-    let Index::At(second) = list_end(numbers, first) else {
-        return out::wrong(out, at);
+    let Some(second) = list_end(numbers, first) else {
+        return out.wrong();
     };
     if second != numbers.len() {
-        return out::wrong(out, at);
+        return out.wrong();
     }
     pair_answer(
         verdict::pair_of_lists(
@@ -36,23 +37,20 @@ fn both_lists(numbers: &[i32], out: &mut [u8], at: usize) -> usize {
             &numbers[first + 1..second],
         ),
         out,
-        at,
     )
 }
 
 // Where the list ends whose count stands at a place, if as many numbers follow it.
-fn list_end(numbers: &[i32], start: usize) -> Index
+fn list_end(numbers: &[i32], start: usize) -> Option<usize>
     ensures { ListWithin start (length numbers.now) result }
 {
     if numbers.len() <= start {
-        return Index::Bad;
+        return None;
     }
     let left = numbers.len() - start;
-    let Index::At(count) = not_negative(numbers[start]) else {
-        return Index::Bad;
-    };
+    let count = not_negative(numbers[start])?;
     if left <= count {
-        return Index::Bad;
+        return None;
     }
-    Index::At(start + 1 + count)
+    Some(start + 1 + count)
 }

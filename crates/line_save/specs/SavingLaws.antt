@@ -1,4 +1,4 @@
--- Laws of what is saved: as many bytes as are counted stand in the room, a refused writing counts none, and a name put into room ends within it.
+-- Laws of what is saved: as many bytes as are counted stand in the room, and a name put into room ends within it.
 -- The definitions stand in Saving, and in crates/desk_write/specs/Writing.antt.
 use Rattle.std.specs.Prelude.{ℕ, ◌+◌, ◌≤◌, ◌<◌, ◌≡◌, refl, List, ℤ, length, drop}
 use Rattle.std.proofs.Common.{ap, subst, ⊎_elim, arith, length-append}
@@ -6,8 +6,7 @@ use Rattle.ints.specs.Order.{lt-or-ge}
 use Rattle.limits.specs.Limits
 use Rattle.text_put.specs.Print.{Put}
 use Rattle.desk_state.specs.Desk.{Desk}
-use Rattle.desk_write.specs.Writing.{shape_text, Writes}
-use Rattle.desk_write.specs.declared.Written.{Written}
+use Rattle.desk_write.specs.Writing.{Written, shape_text, Writes}
 use Rattle.line_save.specs.Saving.{SavedBy, Saves}
 use Rattle.line_save.specs.declared.Saving.{Saving}
 use Rattle.line_save.specs.declared.Saving.TheVariants.{Text}
@@ -22,15 +21,6 @@ pub saves_within : {line : List ℕ} {d : Desk} {before after : List ℕ} {r : S
 saves_within {line} {d} {before} {after} {r} {n} {start} h e =
     let s = subst (SavedBy line d before after) e h.found in
     (s.3, text_within s.2 refl)
-
--- a result by its parts
-pub writes_done : {d : Desk} {s : ℤ} {before after : List ℕ} {r : Written} → Writes d s before after r → r.number ≡ Limits.done
-    → Writes d s before after (record { number = Limits.done; count = r.count })
-writes_done {d} {s} {before} {after} {r} w z = subst (λ (k : ℕ). Writes d s before after (record { number = k; count = r.count })) z w
-
-pub writes_refused : {d : Desk} {s : ℤ} {before after : List ℕ} {r : Written} → Writes d s before after r → (r.number ≡ Limits.done → ⊥)
-    → Writes d s before after (record { number = r.number; count = 0 })
-writes_refused {d} {s} {before} {after} {r} w f = subst (λ (k : ℕ). Writes d s before after (record { number = r.number; count = k })) (w.zeros f) w
 
 pub put_within : {room text exit : List ℕ} {at r : ℕ} → Put room at text exit r → at ≤ length room → r ≤ length room
 put_within {room} {text} {exit} {at} {r} p l =

@@ -2,17 +2,20 @@
 // No contract says what the system does with the bytes; what is promised is that those handed over are the text of the shape that is named.
 #![tactic(auto)]
 
-ghost use Rattle.desk_state.specs.Desk.{desk_of};
+ghost use Rattle.desk_state.specs.Lent.{seen};
 ghost use Rattle.line_save.specs.Saving.{Saves};
 
+use desk_state::SeenDesk;
 use desk_write::write;
+use line::lent;
 use line::lent::at_most;
-use line::{lent, out};
+use line::out::Out;
 use line_file::{ShapePath, shape_and_path};
-use std::fs;
+use std::fmt::Write as Print;
 use std::fs::{OpenFile, OpenOptions};
 use std::io::{ErrorKind, Seek, SeekFrom, Write};
 use std::rt::Files;
+use std::{fmt, fs};
 
 // How many bytes of the room are the text, and where the line's path begins; the refusal; or the line is no command.
 #[derive(Drop)]
@@ -36,44 +39,37 @@ pub fn save(
     rows: &[u8; limits::ROWS],
     book: &[u32; limits::BOOK],
     marks: &[u16],
-    out: &mut [u8],
-    at: usize,
-) -> usize {
+    out: &mut Out<'_>,
+) -> fmt::Result {
     let m = at_most(lent[lent::MARKS_LENT], marks.len());
-    match wanted(line, room, shapes, places, rows, book, &marks[0..m]) {
+    let desk = SeenDesk {
+        shapes,
+        places,
+        rows,
+        book,
+        marks: &marks[0..m],
+    };
+    match wanted(line, room, desk) {
         Saving::Text(n, start) => {
             let saved = to_file(rt, &line[start..], &room[0..n]);
-            out::done_if(out, at, saved)
+            out.done_if(saved)
         }
-        Saving::Refused(number) => out::refused(out, at, number),
-        Saving::Bad => out::wrong(out, at),
+        Saving::Refused(number) => writeln!(out, "{number}"),
+        Saving::Bad => out.wrong(),
     }
 }
 
 // What a line asks to be saved: the text of the shape stands at the start of the room.
-fn wanted(
-    line: &[u8],
-    room: &mut [u8],
-    shapes: &[i32; limits::SHAPES_LENGTH],
-    places: &[i32; limits::PLACES_LENGTH],
-    rows: &[u8; limits::ROWS],
-    book: &[u32; limits::BOOK],
-    marks: &[u16],
-) -> Saving
-    ensures { Saves line.now
-        (desk_of shapes.now places.now rows.now book.now marks.now)
-        room.old room.new result }
+fn wanted(line: &[u8], room: &mut [u8], desk: SeenDesk<'_>) -> Saving
+    ensures { Saves line.now (seen desk.entry) room.old room.new result }
 {
     let ShapePath::At(shape, start) = shape_and_path(line) else {
         return Saving::Bad;
     };
-    let written = write(shapes, places, rows, book, marks, shape, room);
-    let number = written.number;
-    if number != limits::DONE {
-        return Saving::Refused(number);
+    match write(desk, shape, room) {
+        Ok(count) => Saving::Text(count, start),
+        Err(refusal) => Saving::Refused(refusal.number()),
     }
-    let count = written.count;
-    Saving::Text(count, start)
 }
 
 // Whether the text is at the path now. Where it is not, the path is as it was. A path that is not UTF-8 cannot be had.

@@ -1,12 +1,11 @@
 -- Laws of the cell that a `spoil` names: what each test of the words behind it tells.
 -- The words behind it have one cell (`cell_once`).
-use Rattle.std.specs.Prelude.{ℕ, ◌≡◌, refl, List, [], ◌∷◌, ℤ, pos, length, get_or}
+use Rattle.std.specs.Prelude.{ℕ, ◌≡◌, refl, List, [], ◌∷◌, ℤ, pos, length, get_or, Some, None}
 use Rattle.std.proofs.Common.{sym, ap, ◌∙◌, subst, inl, inr, arith}
 use Rattle.text_words.specs.Words.{AreNumbers, filled}
 use Rattle.text_words.specs.ReadLaws.{numbers_once}
 use Rattle.line.specs.Behind.{NumbersIn, Finds}
 use Rattle.line.specs.BehindLaws.{finds_once}
-use Rattle.line.specs.declared.parts.Index.TheVariants.{At, Bad}
 use Rattle.line_spoil.specs.Cells.{parts, NoCell, CellAt, CellOf}
 use Rattle.line_spoil.specs.declared.Cell.{Cell}
 use Rattle.line_spoil.specs.declared.Cell.TheVariants.{Bad as NoneSuch}
@@ -22,10 +21,10 @@ module _ {words : List (List ℕ)} {part : List ℕ} {rest : List (List ℕ)} (e
       let j : r ≡ rest = cc in
       subst (λ (ws : List (List ℕ)). AreNumbers ws vs) j a
 
-  pub cell_stuck : NumbersIn rest room exit Bad → CellOf words room NoneSuch
+  pub cell_stuck : NumbersIn rest room exit None → CellOf words room NoneSuch
   cell_stuck h = inr (λ p r i v q a f. h (pos i ∷ v ∷ []) (numbers_are p r (pos i ∷ v ∷ []) q a) f, refl)
 
-  module _ {n : ℕ} (h : NumbersIn rest room exit (At n)) where
+  module _ {n : ℕ} (h : NumbersIn rest room exit (Some n)) where
     are : (p : List ℕ) (r : List (List ℕ)) (i : ℕ) (v : ℤ) → words ≡ p ∷ r → AreNumbers r (pos i ∷ v ∷ []) → h.0 ≡ pos i ∷ v ∷ []
     are p r i v q a = numbers_once rest h.0 (pos i ∷ v ∷ []) h.1 (numbers_are p r (pos i ∷ v ∷ []) q a)
 

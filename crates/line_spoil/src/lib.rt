@@ -7,8 +7,9 @@ ghost use Rattle.line.specs.Behind.{behind, Finds};
 ghost use Rattle.line_spoil.specs.Cells.{parts, NoCell, CellAt, CellOf};
 
 use line::names::name_of;
-use line::out;
-use line::parts::{Index, not_negative, number_at, numbers_behind};
+use line::out::Out;
+use line::parts::{not_negative, number_at, numbers_behind};
+use std::fmt;
 
 // A cell of a part, and what is put there.
 #[derive(Drop)]
@@ -36,7 +37,7 @@ pub fn cell_of(line: &[u8], end: usize, numbers: &mut [i32]) -> Cell
         return Cell::Bad;
     }
     let name = text_words::word_end(line, end + 1);
-    let Index::At(n) = numbers_behind(line, name, numbers) else {
+    let Some(n) = numbers_behind(line, name, numbers) else {
         return Cell::Bad;
     };
     if n != 2 {
@@ -49,7 +50,7 @@ pub fn cell_of(line: &[u8], end: usize, numbers: &mut [i32]) -> Cell
 fn of_numbers(word: &[u8], numbers: &[i32]) -> Cell
     ensures { CellAt word.now (get_or numbers.now 0 (pos 0)) (get_or numbers.now 1 (pos 0)) result }
 {
-    let Index::At(i) = not_negative(number_at(numbers, 0)) else {
+    let Some(i) = not_negative(number_at(numbers, 0)) else {
         return Cell::Bad;
     };
     of_part(word, i, number_at(numbers, 1))
@@ -75,11 +76,10 @@ pub fn spoil(
     rows: &mut [u8; limits::ROWS],
     book: &mut [u32; limits::BOOK],
     marks: &mut [u16],
-    out: &mut [u8],
-    at: usize,
-) -> usize {
+    out: &mut Out<'_>,
+) -> fmt::Result {
     let done = put(cell, shapes, places, rows, book, marks);
-    out::done_if(out, at, done)
+    out.done_if(done)
 }
 
 // Whether there is such a cell, and it can hold the number: then it does.
@@ -110,7 +110,7 @@ fn put_number(cells: &mut [i32], i: usize, v: i32) -> bool {
 }
 
 fn put_byte(cells: &mut [u8], i: usize, v: i32) -> bool {
-    let Index::At(n) = not_negative(v) else {
+    let Some(n) = not_negative(v) else {
         return false;
     };
     if cells.len() <= i {
@@ -124,7 +124,7 @@ fn put_byte(cells: &mut [u8], i: usize, v: i32) -> bool {
 }
 
 fn put_mark(cells: &mut [u16], i: usize, v: i32) -> bool {
-    let Index::At(n) = not_negative(v) else {
+    let Some(n) = not_negative(v) else {
         return false;
     };
     if cells.len() <= i {
@@ -139,7 +139,7 @@ fn put_mark(cells: &mut [u16], i: usize, v: i32) -> bool {
 
 // A number that is not negative fits 32 bits without a sign; the last test shows it to the prover.
 fn put_count(cells: &mut [u32], i: usize, v: i32) -> bool {
-    let Index::At(n) = not_negative(v) else {
+    let Some(n) = not_negative(v) else {
         return false;
     };
     if cells.len() <= i {

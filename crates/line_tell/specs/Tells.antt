@@ -2,10 +2,9 @@
 -- `Tells` is all that is promised of the desk afterwards; what a command does is said in crate `desk`, Commands.antt.
 use Rattle.std.specs.Prelude.{ℕ, ◌≡◌, List, ◌⊎◌, ℤ, take, drop}
 use Rattle.desk_state.specs.Desk.{Desk}
-use Rattle.desk.specs.Commands.{Does}
+use Rattle.desk.specs.Commands.{Outcome, Does}
 use Rattle.desk.specs.declared.Command.{Command}
 use Rattle.desk.specs.declared.Command.TheVariants.{Load}
-use Rattle.desk.specs.declared.Outcome.{Outcome}
 use Rattle.line.specs.declared.kinds.FileKind.{FileKind}
 use Rattle.line_file.specs.Requests.{Requests}
 use Rattle.line_file.specs.declared.Request.TheVariants.{Load as Loading}

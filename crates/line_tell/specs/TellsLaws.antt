@@ -5,9 +5,8 @@ use Rattle.std.proofs.Common.{sym, ap, ◌∙◌, subst, add-zero, arith, take_a
 use Rattle.std.proofs.Math.Decide.{dec_le}
 use Rattle.std.proofs.Math.Seq.{take-append_seam, drop-append-add}
 use Rattle.desk_state.specs.Desk.{Desk}
-use Rattle.desk.specs.Commands.{Does}
+use Rattle.desk.specs.Commands.{Outcome, Does}
 use Rattle.desk.specs.declared.Command.{Command}
-use Rattle.desk.specs.declared.Outcome.{Outcome}
 use Rattle.line_tell.specs.Tells.{behind_first, lent_to, Tells}
 
 -- ---- a load's corner list
@@ -45,3 +44,7 @@ tells_lent command count numbers list m n before after r part eb em el e h =
     let lent = subst (λ (k : ℕ). Does command list (lent_to k before) (with after part) r) em h in
     let told = subst (λ (l : List ℤ). Does command l (lent_to m before) (with after part) r) eb lent in
     record { outcome = r; does = subst (λ (l : List ℕ). Does command (behind_first count numbers) (lent_to m before) (with after l) r) front told; rest = back }
+
+-- what a command has done to the desk that was lent on, it has done to the one that was lent
+pub does_there : (command : Command) (numbers : List ℤ) (before : Desk) {lent after : Desk} (r : Outcome) → lent ≡ after → Does command numbers before lent r → Does command numbers before after r
+does_there command numbers before r e h = subst (λ (d : Desk). Does command numbers before d r) e h

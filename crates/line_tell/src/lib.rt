@@ -5,15 +5,21 @@
 ghost use Rattle.std.specs.Prelude.{◌≡◌, [], min, length, get_or};
 ghost use Rattle.limits.specs.Limits;
 ghost use Rattle.desk_state.specs.Desk.{desk_of};
+ghost use Rattle.desk.specs.Commands.{Started, Does};
 ghost use Rattle.desk.specs.declared.Command.TheVariants.{Start};
 ghost use Rattle.line_tell.specs.Tells.{behind_first, Tells, LoadsFile};
 
+use desk::Command;
 use desk::start::start;
-use desk::{Command, Outcome};
+use desk_state::LentDesk;
+use limits::Refusal;
 use line::kinds::FileKind;
+use line::lent;
 use line::lent::at_most;
-use line::{lent, out};
+use line::out::Out;
 use line_file::{Request, requested};
+use std::fmt;
+use std::fmt::Write;
 use std::rt::Files;
 
 // The desk before the first line, in a marks buffer that is longer than its marks.
@@ -29,7 +35,28 @@ pub fn fresh(
         (desk_of shapes.new places.new rows.new book.new marks.new) }
 {
     let m = at_most(limits::MARKS, marks.len());
-    start(shapes, places, rows, book, &mut marks[0..m]);
+    let _ = started(shapes, places, rows, book, &mut marks[0..m]);
+}
+
+fn started(
+    shapes: &mut [i32; limits::SHAPES_LENGTH],
+    places: &mut [i32; limits::PLACES_LENGTH],
+    rows: &mut [u8; limits::ROWS],
+    book: &mut [u32; limits::BOOK],
+    marks: &mut [u16],
+) -> Result<u32, Refusal>
+    ensures { Started
+        (desk_of shapes.old places.old rows.old book.old marks.old)
+        (desk_of shapes.new places.new rows.new book.new marks.new) result }
+{
+    let mut desk = LentDesk {
+        shapes,
+        places,
+        rows,
+        book,
+        marks,
+    };
+    start(&mut desk)
 }
 
 // Has the desk do a line's command, of which the line has so many numbers, with as many marks as are lent.
@@ -43,16 +70,15 @@ pub fn tell(
     rows: &mut [u8; limits::ROWS],
     book: &mut [u32; limits::BOOK],
     marks: &mut [u16],
-    out: &mut [u8],
-    at: usize,
-) -> usize
+    out: &mut Out<'_>,
+) -> fmt::Result
     ensures { Tells command count numbers.now (min (get_or lent.now 1 0) (length marks.old))
         (desk_of shapes.old places.old rows.old book.old marks.old)
         (desk_of shapes.new places.new rows.new book.new marks.new) }
 {
     let m = at_most(lent[lent::MARKS_LENT], marks.len());
     let corners = behind_first(numbers, count);
-    let outcome = desk_tell::tell(
+    let answer = told(
         command,
         corners,
         shapes,
@@ -61,7 +87,30 @@ pub fn tell(
         book,
         &mut marks[0..m],
     );
-    answered(command, outcome, out, at)
+    answered(command, answer, out)
+}
+
+fn told(
+    command: Command,
+    numbers: &[i32],
+    shapes: &mut [i32; limits::SHAPES_LENGTH],
+    places: &mut [i32; limits::PLACES_LENGTH],
+    rows: &mut [u8; limits::ROWS],
+    book: &mut [u32; limits::BOOK],
+    marks: &mut [u16],
+) -> Result<u32, Refusal>
+    ensures { Does command numbers.now
+        (desk_of shapes.old places.old rows.old book.old marks.old)
+        (desk_of shapes.new places.new rows.new book.new marks.new) result }
+{
+    let mut desk = LentDesk {
+        shapes,
+        places,
+        rows,
+        book,
+        marks,
+    };
+    desk_tell::tell(&mut desk, command, numbers)
 }
 
 // `load-stl S PATH` and `load-off S PATH`: the desk is told to load the corners of a file. Where the reader refuses the file, the desk is
@@ -77,9 +126,8 @@ pub fn load_file(
     rows: &mut [u8; limits::ROWS],
     book: &mut [u32; limits::BOOK],
     marks: &mut [u16],
-    out: &mut [u8],
-    at: usize,
-) -> usize
+    out: &mut Out<'_>,
+) -> fmt::Result
     ensures { LoadsFile kind line.now (min (get_or lent.now 1 0) (length marks.old))
         (desk_of shapes.old places.old rows.old book.old marks.old)
         (desk_of shapes.new places.new rows.new book.new marks.new) }
@@ -96,10 +144,9 @@ pub fn load_file(
             book,
             marks,
             out,
-            at,
         ),
-        Request::Refused(number) => out::refused(out, at, number),
-        Request::Bad => out::wrong(out, at),
+        Request::Refused(number) => writeln!(out, "{number}"),
+        Request::Bad => out.wrong(),
     }
 }
 
@@ -114,21 +161,11 @@ fn behind_first(numbers: &[i32], count: usize) -> &[i32]
     &numbers[1..end]
 }
 
-fn answered(command: Command, outcome: Outcome, out: &mut [u8], at: usize) -> usize {
-    match outcome {
-        Outcome::Done(count) => done(command, count, out, at),
-        Outcome::Refused(number) => out::refused(out, at, number),
-    }
-}
-
 // A move answers its count as well.
-fn done(command: Command, count: u32, out: &mut [u8], at: usize) -> usize {
-    match command {
-        Command::Move(_, _, _) => {
-            let next = out::word(out, at, b"0");
-            let next = out::next_number(out, next, count as i64);
-            out::end(out, next)
-        }
-        _ => out::done(out, at),
+fn answered(command: Command, answer: Result<u32, Refusal>, out: &mut Out<'_>) -> fmt::Result {
+    match (command, answer) {
+        (_, Err(refusal)) => out.refused(refusal),
+        (Command::Move(_, _, _), Ok(count)) => writeln!(out, "0 {count}"),
+        (_, Ok(_)) => out.done(),
     }
 }

@@ -2,53 +2,44 @@
 // Direction, pairs and weights are printed as they were answered.
 #![tactic(auto)]
 
-use line::out;
-
-// An answer carries the first `count` of this many pairs.
-const MOST_PAIRS: usize = 4;
+use limits::Refusal;
+use line::out::Out;
+use space::{Pair, Vec3};
+use std::fmt;
+use std::fmt::Write;
+use verdict::Verdict;
 
 // The answer to the pair question: a refusal's number, or the verdict with the direction and the pairs that it carries.
-pub fn pair_answer(a: verdict::Answer, out: &mut [u8], at: usize) -> usize {
-    let number = a.number;
-    if number != limits::DONE {
-        return out::refused(out, at, number);
+pub fn pair_answer(answer: Result<Verdict, Refusal>, out: &mut Out<'_>) -> fmt::Result {
+    match answer {
+        Ok(verdict) => witnessed(&verdict, out),
+        Err(refusal) => {
+            let number = refusal.number();
+            writeln!(out, "{number}")
+        }
     }
-    let verdict = a.verdict;
-    let direction = a.direction;
-    let count = a.count;
-    let pairs = a.pairs;
-    let next = out::word(out, at, b"0");
-    let next = out::next_number(out, next, verdict as i64);
-    let next = three_numbers(direction, out, next);
-    let next = out::next_count(out, next, count);
-    let next = carried(count, pairs, out, next);
-    out::end(out, next)
 }
 
-// A direction's three numbers.
-fn three_numbers(d: space::Vec3, out: &mut [u8], at: usize) -> usize {
-    let next = out::next_number(out, at, d.x);
-    let next = out::next_number(out, next, d.y);
-    out::next_number(out, next, d.z)
-}
-
-// The pairs that an answer carries. No answer of the pair question counts more than four; the printer takes any, and looks itself, so that it
-// asks nothing of its caller.
-fn carried(count: usize, pairs: [space::Pair; MOST_PAIRS], out: &mut [u8], at: usize) -> usize {
-    let mut next = at;
-    let mut i: usize = 0;
-    while i < MOST_PAIRS && i < count {
-        let p = pairs[i];
-        next = weighed(p, out, next);
-        i += 1;
+// A verdict in numbers: its own, its direction, how many pairs there are, and each of them. What it does not carry is 0.
+fn witnessed(verdict: &Verdict, out: &mut Out<'_>) -> fmt::Result {
+    let number = verdict.number();
+    let Vec3 { x, y, z } = verdict.direction();
+    let pairs = verdict.pairs();
+    let count = pairs.len();
+    write!(out, "0 {number} {x} {y} {z} {count}")?;
+    for pair in pairs {
+        weighed(*pair, out)?;
     }
-    next
+    writeln!(out)
 }
 
 // A pair: the corner of the first piece, the corner of the second, the corner of the gap's cube, and the weight.
-fn weighed(p: space::Pair, out: &mut [u8], at: usize) -> usize {
-    let next = out::next_count(out, at, p.first);
-    let next = out::next_count(out, next, p.second);
-    let next = out::next_count(out, next, p.cube);
-    out::next_number(out, next, p.weight)
+fn weighed(p: Pair, out: &mut Out<'_>) -> fmt::Result {
+    let Pair {
+        first,
+        cube,
+        second,
+        weight,
+    } = p;
+    write!(out, " {first} {second} {cube} {weight}")
 }

@@ -1,24 +1,13 @@
 // How many pairs of a mark of the moved place and a mark of another place change their order on one axis.
 // Counted by the definition, in two straight loops: over the marks below the own two, and over those above.
 ghost use Rattle.std.specs.Prelude.{◌≡◌, ◌+◌, ◌*◌, ◌≤◌, ◌<◌};
-ghost use Rattle.std.specs.Bool.{xor};
 ghost use Rattle.limits.specs.Limits;
-ghost use Rattle.ints.specs.Counts.{one_if, sum_to};
+ghost use Rattle.ints.specs.Counts.{sum_to};
 ghost use Rattle.marks.specs.Keys.{keys_at};
 ghost use Rattle.marks.specs.Changed.{crossed_by, crossed_with};
 ghost use Rattle.marks.specs.Promises.{Counted};
 
 use marks::MarkKeys;
-
-fn differs(a: bool, b: bool) -> u32
-    ensures { (result ≡ one_if (xor a b)) × (result ≤ 1) }
-{
-    if a {
-        if b { 0 } else { 1 }
-    } else {
-        if b { 1 } else { 0 }
-    }
-}
 
 // The keys of a place's two marks.
 fn keys_at(keys: &[u32; limits::AXIS_MARKS], place: usize) -> MarkKeys
@@ -35,12 +24,8 @@ fn keys_at(keys: &[u32; limits::AXIS_MARKS], place: usize) -> MarkKeys
 fn crossed_by(was: MarkKeys, is: MarkKeys, before: u32, after: u32) -> u32
     ensures { result ≡ crossed_by was is before after }
 {
-    let was_low = was.low;
-    let was_high = was.high;
-    let is_low = is.low;
-    let is_high = is.high;
-    let low = differs(was_low < before, is_low < after);
-    let high = differs(was_high < before, is_high < after);
+    let low = u32::from((was.low < before) != (is.low < after));
+    let high = u32::from((was.high < before) != (is.high < after));
     low + high
 }
 
@@ -58,10 +43,8 @@ fn count_between(
         × (result + sum_to from (crossed_with old.now new.now was is) ≡ sum_to to (crossed_with old.now new.now was is)) }
 {
     let mut n = 0;
-    let mut other = from;
-    while other < to {
+    for other in from..to {
         n += crossed_by(was, is, old[other], new[other]);
-        other += 1;
     }
     n
 }

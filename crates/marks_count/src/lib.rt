@@ -7,24 +7,17 @@ ghost use Rattle.limits.specs.Limits;
 ghost use Rattle.marks.specs.Promises.{CountedMarks};
 
 use count::count_changed;
+use marks::Keys;
 
 mod count;
 
 // How many pairs of a mark of the moved place and a mark of another change their order, over the three axes.
-pub fn count_marks(
-    old_x: &[u32; limits::AXIS_MARKS],
-    old_y: &[u32; limits::AXIS_MARKS],
-    old_z: &[u32; limits::AXIS_MARKS],
-    new_x: &[u32; limits::AXIS_MARKS],
-    new_y: &[u32; limits::AXIS_MARKS],
-    new_z: &[u32; limits::AXIS_MARKS],
-    place: usize,
-) -> u32
+pub fn count_marks(old: &Keys, new: &Keys, place: usize) -> u32
     requires { place < Limits.places }
-    ensures { CountedMarks old_x.now old_y.now old_z.now new_x.now new_y.now new_z.now place result }
+    ensures { CountedMarks old.now.x old.now.y old.now.z new.now.x new.now.y new.now.z place result }
 {
-    let x = count_changed(old_x, new_x, place);
-    let y = count_changed(old_y, new_y, place);
-    let z = count_changed(old_z, new_z, place);
+    let x = count_changed(&old.x, &new.x, place);
+    let y = count_changed(&old.y, &new.y, place);
+    let z = count_changed(&old.z, &new.z, place);
     x + y + z
 }

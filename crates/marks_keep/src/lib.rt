@@ -2,18 +2,20 @@
 // A place that is no longer taken has NO_KEY: its marks are carried past all others, and what is left there is no mark.
 #![tactic(auto)]
 
-ghost use Rattle.std.specs.Prelude.{◌≡◌, cond, ◌++◌, ◌-◌, ◌<◌, ◌≤◌, length, take, replicate};
+ghost use Rattle.std.specs.Prelude.{◌≡◌, ◌<◌, ltb, length, replicate};
 ghost use Rattle.limits.specs.Limits;
-ghost use Rattle.marks.specs.Keys.{key_of};
+ghost use Rattle.marks.specs.Keys.{key_of, no_key};
+ghost use Rattle.marks.specs.Sorted.{standing};
 ghost use Rattle.marks.specs.Promises.{Reordered, ReorderedMarks};
 ghost use Rattle.marks_keep.specs.Slide.{Found, CarriedDown, CarriedUp, Slid};
 
-use marks::{MarkKeys, NO_KEY, START_Y, START_Z, key_of, wide};
+use marks::{Keys, MarkKeys, NO_KEY, PlaceKeys, START_Y, START_Z, key_of};
 
-fn pick(b: bool, x: u16, y: u16) -> u16
-    ensures { result ≡ cond b x y }
+// What stands for a mark of this key: the mark, or no mark where the key is none.
+fn standing(key: u32, mark: u16) -> u16
+    ensures { result ≡ standing (ltb key no_key) mark }
 {
-    if b { x } else { y }
+    if key < NO_KEY { mark } else { limits::NO_MARK }
 }
 
 // The first cell that holds this, or the last.
@@ -21,32 +23,26 @@ fn find(part: &[u16], q: u16) -> usize
     requires { 0 < length part.now }
     ensures { Found q part.now result }
 {
-    let last = part.len() - 1;
-    let mut cell = 0;
-    while cell < last {
-        if part[cell] == q {
-            return cell;
-        }
-        cell += 1;
+    match part.iter().position(|held| *held == q) {
+        Some(cell) => cell,
+        None => part.len() - 1,
     }
-    cell
 }
 
 // From a cell down, past all of a larger key, each of which comes up by one.
+// Stays beside `carry_up`: they walk opposite ways and compare the other way round, so one for both would take a closure for each step.
 fn carry_down(part: &mut [u16], keys: &[u32; limits::AXIS_MARKS], from: usize, key: u32) -> usize
     requires { from < length part.old }
     ensures { CarriedDown (key_of keys.now) key from part.old part.new result }
 {
-    let mut cell = from;
-    while 0 < cell {
-        let q = part[cell - 1];
+    for below in (0..from).rev() {
+        let q = part[below];
         if key_of(keys, q) <= key {
-            return cell;
+            return below + 1;
         }
-        part[cell] = q;
-        cell -= 1;
+        part[below + 1] = q;
     }
-    cell
+    0
 }
 
 // From a cell up, past all of a smaller key, each of which comes down by one.
@@ -54,16 +50,14 @@ fn carry_up(part: &mut [u16], keys: &[u32; limits::AXIS_MARKS], from: usize, key
     requires { from < length part.old }
     ensures { CarriedUp (key_of keys.now) key from part.old part.new result }
 {
-    let mut cell = from;
-    while cell + 1 < part.len() {
-        let q = part[cell + 1];
+    for above in from + 1..part.len() {
+        let q = part[above];
         if key <= key_of(keys, q) {
-            return cell;
+            return above - 1;
         }
-        part[cell] = q;
-        cell += 1;
+        part[above - 1] = q;
     }
-    cell
+    part.len() - 1
 }
 
 // A mark gets a new key and goes to where it belongs.
@@ -72,13 +66,11 @@ fn slide(part: &mut [u16], keys: &mut [u32; limits::AXIS_MARKS], mark: u16, key:
     ensures { Slid mark key keys.old keys.new part.old part.new }
 {
     let was = key_of(keys, mark);
-    let at = wide(mark);
-    keys[at] = key;
-    let is = key_of(keys, mark);
-    let found = find(part, pick(was < NO_KEY, mark, limits::NO_MARK));
-    let down = carry_down(part, keys, found, is);
-    let cell = carry_up(part, keys, down, is);
-    part[cell] = pick(is < NO_KEY, mark, limits::NO_MARK);
+    keys[usize::from(mark)] = key;
+    let found = find(part, standing(was, mark));
+    let down = carry_down(part, keys, found, key);
+    let cell = carry_up(part, keys, down, key);
+    part[cell] = standing(key, mark);
 }
 
 // The reordering function: the two marks of a place get new keys and slide, one after the other.
@@ -86,47 +78,29 @@ fn reorder(part: &mut [u16], keys: &mut [u32; limits::AXIS_MARKS], place: usize,
     requires { (0 < length part.old) × (place < Limits.places) }
     ensures { Reordered place k keys.old keys.new part.old part.new }
 {
-    let low = k.low;
-    let high = k.high;
-    slide(part, keys, (2 * place + 1) as u16, high);
-    slide(part, keys, (2 * place) as u16, low);
-}
-
-// No mark from n on.
-fn fill_up(part: &mut [u16], n: usize)
-    requires { n ≤ length part.old }
-    ensures { part.new ≡ take n part.old ++ replicate (length part.old - n) Limits.no_mark }
-{
-    let mut i = n;
-    while i < part.len() {
-        part[i] = limits::NO_MARK;
-        i += 1;
-    }
+    slide(part, keys, (2 * place + 1) as u16, k.high);
+    slide(part, keys, (2 * place) as u16, k.low);
 }
 
 // No place is taken: no mark anywhere.
 pub fn start_marks(marks: &mut [u16])
     ensures { marks.new ≡ replicate (length marks.old) Limits.no_mark }
 {
-    fill_up(marks, 0);
+    marks.fill(limits::NO_MARK);
 }
 
-// One place is placed, moved or removed on all three axes; x, y and z are the keys, in which those of its marks become the new ones.
-pub fn reorder_marks(
-    marks: &mut [u16],
-    x: &mut [u32; limits::AXIS_MARKS],
-    y: &mut [u32; limits::AXIS_MARKS],
-    z: &mut [u32; limits::AXIS_MARKS],
-    place: usize,
-    new_x: MarkKeys,
-    new_y: MarkKeys,
-    new_z: MarkKeys,
-)
+// One place is placed, moved or removed on all three axes: the keys of its marks become the new ones.
+pub fn reorder_marks(marks: &mut [u16], keys: &mut Keys, place: usize, new: PlaceKeys)
     requires { (length marks.old ≡ Limits.marks) × (place < Limits.places) }
-    ensures { ReorderedMarks place new_x new_y new_z
-        x.old y.old z.old x.new y.new z.new marks.old marks.new }
+    ensures { ReorderedMarks place new.x new.y new.z
+        keys.old.x keys.old.y keys.old.z keys.new.x keys.new.y keys.new.z marks.old marks.new }
 {
-    reorder(&mut marks[0..START_Y], x, place, new_x);
-    reorder(&mut marks[START_Y..START_Z], y, place, new_y);
-    reorder(&mut marks[START_Z..limits::MARKS], z, place, new_z);
+    reorder(&mut marks[0..START_Y], &mut keys.x, place, new.x);
+    reorder(&mut marks[START_Y..START_Z], &mut keys.y, place, new.y);
+    reorder(
+        &mut marks[START_Z..limits::MARKS],
+        &mut keys.z,
+        place,
+        new.z,
+    );
 }

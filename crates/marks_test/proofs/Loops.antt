@@ -1,18 +1,14 @@
--- What one round of each loop finds in its list, and what is found when the loop ends.
+-- What one round of the loop finds in its list and what is found when it ends; what the two chains answer.
 -- On plain lists and numbers; the proofs of the functions hand the facts over.
-use mathlib.Core.Path.{◌≡◌, ap, sym, ◌∙◌}
-use mathlib.Core.List.{List}
-use mathlib.Core.Bool.{Bool, true, false, ◌&&◌}
-use Prim.Native.Nat.{ℕ, suc, ◌+◌, ◌≤◌, ◌<◌}
-use native.Mathlib.Omega.{arith}
-use native.Mathlib.Numerals.{add-one}
-use borrow.Author.Tests.{eq-eqb, ne_eqb, le-leb, lt-leb, lt-ltb, le-ltb}
-use lib.Dec.{eqb, leb, ltb}
-use lib.ListN.{length, get_or, drop}
-use lib.Seq.{drop-cons, drop-length}
+use Rattle.std.proofs.Common.{◌≡◌, refl, ap, sym, ◌∙◌, List, Bool, true, false, cond, ◌&&◌, ℕ, zero, suc, ◌+◌, ◌≤◌, ◌<◌, leb, ltb, length, get_or, take, drop, arith, add-one, le-leb, lt-ltb, le-ltb, take_all, count_by, drop-cons}
+use Rattle.std.proofs.Math.Seq.{drop-length}
+use Rattle.std.proofs.lemmas.Bool.{lt-leb}
+use Rattle.std.proofs.lemmas.List.Sums.{count_by_more_yes, count_by_more_no}
 use Rattle.limits.specs.Limits
-use Rattle.marks.specs.Keys.{no_key}
-use Rattle.marks_test.specs.Tested.{climbs, blank}
+use Rattle.ints.specs.Counts.{one_if, sum_to}
+use Rattle.marks.specs.Keys.{no_key, key_of}
+use Rattle.marks.specs.Sorted.{keyed}
+use Rattle.marks_test.specs.Tested.{climbs, marks_in}
 
 -- climbing keys
 module _ (e : ℕ → ℕ) (k i a : ℕ) (xs : List ℕ) (h : i < length xs) (is : a ≡ e (get_or xs i 0)) where
@@ -39,18 +35,26 @@ pub climbs_done : (e : ℕ → ℕ) (k i : ℕ) (xs : List ℕ) → length xs �
 unfolding climbs
 climbs_done e k i xs h l = let p : i ≡ length xs = omega arith in ap (λ (z : ℕ). climbs e k (drop z xs)) p ∙ ap (climbs e k) (drop-length xs)
 
--- no mark
-module _ (i : ℕ) (xs : List ℕ) (h : i < length xs) where
-  first : blank (drop i xs) ≡ (eqb (get_or xs i 0) Limits.no_mark && blank (drop (suc i) xs))
-  unfolding blank
-  first = ap blank (drop-cons xs i 0 h)
+-- the keys that are below no_key are those of the marks
+module _ (keys : List ℕ) (long : length keys ≡ Limits.axis_marks) where
+  abbrev has_key : ℕ → Bool
+  has_key key = ltb key no_key
 
-  pub not_blank : (get_or xs i 0 ≡ Limits.no_mark → ⊥) → blank (drop i xs) ≡ false
-  not_blank n = first ∙ ap (λ (b : Bool). b && blank (drop (suc i) xs)) (ne_eqb (get_or xs i 0) Limits.no_mark n)
+  abbrev one_at : ℕ → ℕ
+  one_at q = one_if (keyed (key_of keys) q)
 
-  pub blank-more : get_or xs i 0 ≡ Limits.no_mark → blank (drop (i + 1) xs) ≡ blank (drop i xs)
-  blank-more n = ap (λ (z : ℕ). blank (drop z xs)) (add-one i) ∙ sym (first ∙ ap (λ (b : Bool). b && blank (drop (suc i) xs)) (eq-eqb (get_or xs i 0) Limits.no_mark n))
+  one_is : (n : ℕ) → n < Limits.axis_marks → one_at n ≡ one_if (has_key (get_or keys n 0))
+  one_is n l = ap (λ (b : Bool). one_if (has_key (cond b (get_or keys n 0) no_key))) (lt-ltb n Limits.axis_marks l)
 
-pub blank_done : (i : ℕ) (xs : List ℕ) → length xs ≤ i → i ≤ length xs → blank (drop i xs) ≡ true
-unfolding blank
-blank_done i xs h l = let p : i ≡ length xs = omega arith in ap (λ (z : ℕ). blank (drop z xs)) p ∙ ap blank (drop-length xs)
+  counted_to : (n : ℕ) → n ≤ Limits.axis_marks → count_by has_key (take n keys) ≡ sum_to n one_at
+  unfolding sum_to
+  counted_to zero l = refl
+  counted_to (suc n) l = by (has_key (get_or keys n 0)) refl (counted_to n (omega arith))
+    where
+      by : (b : Bool) → has_key (get_or keys n 0) ≡ b → count_by has_key (take n keys) ≡ sum_to n one_at → count_by has_key (take (suc n) keys) ≡ sum_to (suc n) one_at
+      by true e h = omega (arith, ap (λ (z : ℕ). count_by has_key (take z keys)) (add-one n), count_by_more_yes has_key keys n 0 (omega arith) e, h, one_is n (omega arith), ap one_if e)
+      by false e h = omega (arith, ap (λ (z : ℕ). count_by has_key (take z keys)) (add-one n), count_by_more_no has_key keys n 0 (omega arith) e, h, one_is n (omega arith), ap one_if e)
+
+  pub counted_is : count_by has_key keys ≡ marks_in (key_of keys)
+  unfolding marks_in
+  counted_is = ap (count_by has_key) (sym (take_all Limits.axis_marks keys (omega arith))) ∙ counted_to Limits.axis_marks (omega arith)

@@ -41,15 +41,13 @@ fn line<'a>(text: &'a [u8], k: usize) -> &'a [u8]
 fn line_start(text: &[u8], k: usize) -> usize
     ensures { result ≡ start_of text.now k }
 {
-    let mut left = k;
     let mut start: usize = 0;
-    while left > 0 {
+    for _passed in 0..k {
         let end = part_end(text, start, b'\n');
         if end == text.len() {
             return end;
         }
         start = end + 1;
-        left -= 1;
     }
     start
 }

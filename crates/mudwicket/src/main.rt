@@ -14,7 +14,8 @@ ghost use Rattle.line_feed.specs.Served.{FeedsSome, ServedAll};
 ghost use Rattle.line_runs.specs.Heard.{StandsBy};
 
 use line::lent;
-use line_feed::{Mode, Place, answer_held, feed};
+use line::out::Out;
+use line_feed::{Mode, answer_held, feed};
 use line_io::{read_in, write_out};
 use line_tell::fresh;
 use std::rt::Files;
@@ -58,7 +59,11 @@ fn answers() -> [u8; ANSWERS]
 fn desk(rt: &(impl Files + Input + Print + Eprint), mode: Mode) {
     let mut input = io::large_buffer();
     let mut held = line_input::buffer();
-    let mut out = answers();
+    let mut buffer = answers();
+    let mut out = Out {
+        buffer: &mut buffer,
+        at: 0,
+    };
     let mut texts = lent::bytes();
     let mut numbers = lent::numbers();
     let mut lent = lent_first();
@@ -107,7 +112,7 @@ fn run(
     mode: Mode,
     input: &mut [u8],
     held: &mut [u8],
-    out: &mut [u8],
+    out: &mut Out<'_>,
     texts: &mut [u8],
     numbers: &mut [i32],
     lent: &mut [usize; lent::COUNTS],
@@ -136,7 +141,7 @@ fn serve(
     mode: Mode,
     input: &mut [u8],
     held: &mut [u8],
-    out: &mut [u8],
+    out: &mut Out<'_>,
     texts: &mut [u8],
     numbers: &mut [i32],
     lent: &mut [usize; lent::COUNTS],
@@ -167,10 +172,11 @@ fn serve(
     if r.failed {
         return;
     }
-    let at = answer_held(
-        rt, mode, held, r.kept, out, 0, texts, numbers, lent, shapes, places, rows, book, marks,
+    answer_held(
+        rt, mode, held, r.kept, out, texts, numbers, lent, shapes, places, rows, book, marks,
     );
-    write_out(rt, out, at);
+    let at = out.at;
+    write_out(rt, out.buffer, at);
 }
 
 // Reads once, feeds what was read, and writes the answers out, so that a person sees the answer to each line before typing the next.
@@ -180,7 +186,7 @@ fn round(
     input: &mut [u8],
     kept: usize,
     held: &mut [u8],
-    out: &mut [u8],
+    out: &mut Out<'_>,
     texts: &mut [u8],
     numbers: &mut [i32],
     lent: &mut [usize; lent::COUNTS],
@@ -203,12 +209,11 @@ fn round(
             failed: true,
         };
     }
-    let start = Place { kept, at: 0 };
-    let place = feed(
+    let more = feed(
         rt,
         mode,
         &input[0..n],
-        start,
+        kept,
         held,
         out,
         texts,
@@ -220,9 +225,10 @@ fn round(
         book,
         marks,
     );
-    let more = place.kept;
-    let at = write_out(rt, out, place.at);
-    let failed = out.len() < at;
+    let at = out.at;
+    let next = write_out(rt, out.buffer, at);
+    let failed = out.buffer.len() < next;
+    out.at = next;
     Waiting {
         kept: more,
         open: goes_on(n, failed),

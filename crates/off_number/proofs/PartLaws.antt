@@ -4,6 +4,7 @@ use Rattle.std.specs.Prelude.{ℕ, zero, suc, ◌≤◌, ◌<◌, ◌+◌, ◌-�
 use Rattle.std.proofs.Common.{sym, ap, ◌∙◌, subst, ⊎_elim, arith, leb→le, eqb→eq, T_not}
 use Rattle.std.proofs.Math.Dec.{eqb-suc-zero}
 use Rattle.std.specs.Float.Ieee.Fits.{and_l, and_r}
+use Rattle.std.specs.Int.Count.{count_trailing_zeros}
 use Rattle.io.specs.Digits.{last_digits}
 use Rattle.ints.specs.Order.{lt-or-ge}
 use Rattle.limits.specs.Limits
@@ -100,3 +101,15 @@ part_some r h some = go (part_of r) refl
     go : (p : List ℕ) → part_of r ≡ p → pointed p ≡ 46 ∷ p
     go [] e = absurd (omega (arith, sym (part_is_lem r h).value ∙ ap (λ (l : List ℕ). number l * 10 ^ (Limits.off_digits - length l)) e))
     go (d ∷ ds) e = refl
+
+-- how many digits stand behind the point is found by the lowest bit that is set
+decimals_test : ℕ → Bool
+decimals_test r = eqb r 0 || eqb (Limits.off_digits - count_trailing_zeros 32 r) (decimals_of r)
+
+decimals_tested : T (all_to Limits.steps decimals_test)
+unfolding all_to decimals_test count_trailing_zeros
+decimals_tested = tt
+
+pub decimals_found : (r : ℕ) → r < Limits.steps → 1 ≤ r → Limits.off_digits - count_trailing_zeros 32 r ≡ decimals_of r
+unfolding decimals_test
+decimals_found r h some = eqb→eq _ _ (or_r r _ some (all-at Limits.steps decimals_test decimals_tested r h))

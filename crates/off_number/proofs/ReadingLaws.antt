@@ -1,18 +1,17 @@
 -- What is read of a number from left to right is the answer that OffNumber asks for: each return of the helpers is one law.
 -- The definitions stand in Reading.
-use Rattle.std.specs.Prelude.{ℕ, ◌≤◌, ◌<◌, ◌+◌, ◌-◌, ◌*◌, ◌^◌, ◌≡◌, refl, Bool, true, false, List, [], ◌∷◌, ◌++◌, pos, neg_ℤ, length, get_or, drop}
-use Rattle.std.proofs.Common.{sym, ap, ap₂, ◌∙◌, subst, inl, inr, add-one, mul-lt-mul_of_pos_right, arith, pow-add, drop-cons}
+use Rattle.std.specs.Prelude.{ℕ, ◌≤◌, ◌<◌, ◌+◌, ◌-◌, ◌*◌, ◌^◌, min, ◌≡◌, ◌≢◌, refl, Bool, true, false, List, [], ◌∷◌, ◌++◌, pos, neg_ℤ, length, get_or, drop}
+use Rattle.std.proofs.Common.{sym, ap, ap₂, ◌∙◌, subst, inl, inr, add-one, mul-lt-mul_of_pos_right, arith, length-drop, pow-add, drop-cons}
 use Rattle.std.proofs.Math.Nat.{one-le-pow}
 use Rattle.std.proofs.Math.Seq.{drop-length}
 use Rattle.limits.specs.Limits
 use Rattle.limits.specs.Lowest.{Lowest, ◌when◌}
 use Rattle.scans.specs.Floats.{with_sign}
-use Rattle.text_digits.specs.Decimal.{Digits, number, Follows, value_in}
-use Rattle.text_digits.specs.DecimalLaws.{leading, leading_digits, leading_split, leading_le, whole_leading, rest_follows, decimal_once, number_below}
+use Rattle.text_digits.specs.Decimal.{Digits, number, Follows, value_in, cut}
+use Rattle.text_digits.specs.DecimalLaws.{leading, leading_digits, leading_split, leading_le, leading_all, digits_leading, whole_leading, rest_follows, decimal_once, number_below, number_few}
 use Rattle.off_number.specs.OffNumber.{Point, signed, millionth, Millionths, Inexact, Beyond, NumberReadAs}
 use Rattle.off_number.specs.OffNumberLaws.{apart, no_minus}
-use Rattle.off_number.specs.Reading.{Plain, InexactAt, BeyondAt, no_number, PlainAs, bad, judged, BegunTo, Pointed}
-use Rattle.off_number.specs.declared.Counted.{Counted}
+use Rattle.off_number.specs.Reading.{Plain, InexactAt, BeyondAt, Counted, no_number, PlainAs, bad, judged, BegunTo, Pointed}
 
 pub plain_once : {text : List ℕ} {m n : ℕ} → Plain text m → Plain text n → m ≡ n
 plain_once a b =
@@ -86,6 +85,36 @@ module _ {text : List ℕ} {at whole : ℕ} (p : Pointed text at whole) where
   pub part_good : Digits (drop at text) → 1 ≤ length (drop at text) → length (drop at text) ≤ Limits.off_digits
       → Plain text (number (leading text) * millionth + number (drop at text) * 10 ^ (Limits.off_digits - length (drop at text)))
   part_good ds some few = plain_by text (46 ∷ drop at text) (drop at text) p.begun.some p.point (refl, refl, some) ds few
+
+  -- k digits stand behind the point: not all that does, or none, or too many
+  pub part_refused : {k : ℕ} → k ≡ length (leading (drop at text)) → (length text - at ≤ k → 1 ≤ k → k ≤ Limits.off_digits → ⊥) → PlainAs text no_number
+  part_refused e f = part_bad (λ ds some few.
+      let n = e ∙ ap length (digits_leading (drop at text) ds) in
+      f (omega (arith, n, length-drop at text)) (omega (arith, n)) (omega (arith, n)))
+
+  -- or all that does, and few: v is what they name, and w what the last of them is worth
+  module _ {k v w : ℕ} (e : k ≡ length (leading (drop at text))) (named : v ≡ min (number (leading (drop at text))) cut) (worth : w ≡ 10 ^ (Limits.off_digits - k)) (all : length text - at ≤ k)
+      (some : k ≢ 0) (few : k ≤ Limits.off_digits) where
+    digits_all : leading (drop at text) ≡ drop at text
+    digits_all = leading_all (drop at text) (omega (arith, e, length-drop at text))
+
+    digits_are : Digits (drop at text)
+    digits_are = subst Digits digits_all (leading_digits (drop at text))
+
+    long : k ≡ length (drop at text)
+    long = e ∙ ap length digits_all
+
+    part_is : v * w ≡ number (drop at text) * 10 ^ (Limits.off_digits - length (drop at text))
+    part_is =
+        let n : v ≡ number (drop at text) = omega (arith, named, ap number digits_all, number_few Limits.off_digits (drop at text) digits_are (omega (arith, long))) in
+        ap₂ (λ (x y : ℕ). x * y) n (worth ∙ ap (λ (m : ℕ). 10 ^ (Limits.off_digits - m)) long)
+
+    pub taken_below : v * w < millionth
+    taken_below = subst (λ (n : ℕ). n < millionth) (sym part_is) (part_below (drop at text) digits_are (omega (arith, long)))
+
+    pub part_taken : Plain text (number (leading text) * millionth + v * w)
+    part_taken =
+        subst (λ (n : ℕ). Plain text (number (leading text) * millionth + n)) (sym part_is) (part_good digits_are (omega (arith, long, some)) (omega (arith, long)))
 
 -- few steps
 pub plain_most : {text : List ℕ} {c : Counted} → PlainAs text c → c.steps ≤ Limits.shape_reach

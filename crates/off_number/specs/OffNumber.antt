@@ -1,11 +1,12 @@
 -- A number of an OFF text (document 02, W7): what it is, its value, and when it is refused.
 -- `NumberReadAs word r` is all that is promised of the answer r to a word.
-use Rattle.std.specs.Prelude.{ℕ, ◌≤◌, ◌<◌, ◌*◌, ◌^◌, ◌≡◌, Bool, true, false, List, [], ◌∷◌, ℤ, pos, length}
+use Rattle.std.specs.Prelude.{ℕ, ◌≤◌, ◌<◌, ◌*◌, ◌^◌, ◌≡◌, Bool, true, false, List, [], ◌∷◌, ℤ, pos, Result, Ok, Err, length}
 use Rattle.limits.specs.Limits
-use Rattle.limits.specs.Lowest.{Refusal, Lowest, ◌when◌}
+use Rattle.limits.specs.Lowest.{Rule, Lowest, ◌when◌}
+use Rattle.limits.specs.Refusals.{number_of}
+use Rattle.limits.specs.declared.Refusal.{Refusal}
 use Rattle.scans.specs.Floats.{with_sign}
 use Rattle.text_digits.specs.Decimal.{Decimal, value_in}
-use Rattle.off_number.specs.declared.NumberRead.{NumberRead}
 
 -- "Numbers are an optional minus, one or more digits, and optionally a point and 1 to 6 digits". A point is the byte 46
 abbrev pub Point : ℕ → Type 0
@@ -62,8 +63,18 @@ pub record InSteps (text : List ℕ) (z : ℤ) : Type 0 where
   pub value : z ≡ with_sign minus steps
 
 -- the refusals of one word, in the request's own order: 26, 17, 18
-abbrev pub word_refusals : List ℕ → List Refusal
+abbrev pub word_refusals : List ℕ → List Rule
 word_refusals word = Limits.bad_text when NotNumber word ∷ Limits.not_whole when Inexact word ∷ Limits.float_range when Beyond word ∷ []
+
+-- 0 and the steps, or the number of the refusal and 0
+pub record NumberRead : Type 0 where
+  pub number : ℕ
+  pub steps : ℤ
+
+-- "For any answer that is an enum, a definition gives this paper's number and values for each case." (document 01)
+abbrev pub number_read_of : Result ℤ Refusal → NumberRead
+number_read_of (Ok z) = record { number = Limits.done; steps = z }
+number_read_of (Err r) = record { number = number_of r; steps = pos 0 }
 
 -- the answer to a word: the first refusal that applies; where none does, the steps; else "Every other value in the answer is zero" (document 01)
 pub record NumberReadAs (word : List ℕ) (r : NumberRead) : Type 0 where

@@ -1,15 +1,16 @@
 -- Laws of the numbers of an OFF text: a text is a number in one way, with one value and one number of steps.
--- So two answers that are allowed for one word are equal (`read_once_lem`).
-use Rattle.std.specs.Prelude.{ℕ, ◌≤◌, ◌*◌, ◌≡◌, refl, Bool, true, false, List, [], ◌∷◌, ◌++◌, ℤ, length, get_or}
+-- So two answers that are allowed for one word are equal (`read_once_lem`, and of the answers themselves `answer_once`).
+use Rattle.std.specs.Prelude.{ℕ, ◌≤◌, ◌*◌, ◌≡◌, refl, Bool, true, false, List, [], ◌∷◌, ◌++◌, ℤ, Result, Ok, Err, length, get_or}
 use Rattle.std.proofs.Common.{sym, ap, ap₂, ◌∙◌, subst, ⊎_elim, arith}
 use Rattle.limits.proofs.LowestLaws.{lowest_once}
+use Rattle.limits.proofs.RefusalLaws.{number_once as refusal_once, number_some}
+use Rattle.limits.specs.declared.Refusal.{Refusal}
 use Rattle.scans.specs.Floats.{with_sign}
 use Rattle.scans.specs.Once.{zero_or}
 use Rattle.text_digits.specs.Decimal.{Digit, Digits, Decimal, value_in}
 use Rattle.text_digits.specs.DecimalLaws.{decimal_once}
 use Rattle.limits.specs.Limits
-use Rattle.off_number.specs.OffNumber.{Point, NumberAs, Millionths, Exact, InSteps, word_refusals, NumberReadAs}
-use Rattle.off_number.specs.declared.NumberRead.{NumberRead}
+use Rattle.off_number.specs.OffNumber.{Point, NumberAs, Millionths, Exact, InSteps, word_refusals, NumberRead, number_read_of, NumberReadAs}
 
 -- a point is no digit
 pub apart : (c : ℕ) → Point c → Digit c → ⊥
@@ -58,3 +59,13 @@ read_once_lem {word} {q} {r} a b =
     (λ (z : q.number ≡ 0). steps_once (a.steps z) (b.steps (sym n ∙ z)))
     (λ (f : q.number ≡ 0 → ⊥). a.zeros f ∙ sym (b.zeros (λ e. f (n ∙ e)))) (zero_or q.number) in
     λ i. record { number = n i; steps = s i }
+
+-- an answer is told whole by its number and its steps
+pub told_once : (q r : Result ℤ Refusal) → number_read_of q ≡ number_read_of r → q ≡ r
+told_once (Ok x) (Ok y) e = ap Ok (ap (λ (n : NumberRead). n.steps) e)
+told_once (Err x) (Err y) e = ap Err (refusal_once x y (ap (λ (n : NumberRead). n.number) e))
+told_once (Ok x) (Err y) e = absurd (omega (arith, number_some y, ap (λ (n : NumberRead). n.number) e))
+told_once (Err x) (Ok y) e = absurd (omega (arith, number_some x, ap (λ (n : NumberRead). n.number) e))
+
+pub answer_once : {word : List ℕ} {q r : Result ℤ Refusal} → NumberReadAs word (number_read_of q) → NumberReadAs word (number_read_of r) → q ≡ r
+answer_once {word} {q} {r} a b = told_once q r (read_once_lem a b)

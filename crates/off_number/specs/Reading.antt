@@ -1,12 +1,13 @@
 -- How a number of an OFF text is read: the digits at the start, what stands after them, and what stands after the point; the sign last.
 -- The helpers of src/lib.rt are held to these; ReadingLaws turns them into what OffNumber promises.
-use Rattle.std.specs.Prelude.{ℕ, ◌*◌, ◌≤◌, ◌<◌, min, ◌≡◌, List, [], ◌∷◌, length, drop}
+use Rattle.std.specs.Prelude.{ℕ, ◌*◌, ◌≤◌, ◌<◌, min, ◌≡◌, List, [], ◌∷◌, Result, Ok, Err, length, drop}
 use Rattle.limits.specs.Limits
 use Rattle.limits.specs.Lowest.{Lowest, ◌when◌}
+use Rattle.limits.specs.Refusals.{number_of}
+use Rattle.limits.specs.declared.Refusal.{Refusal}
 use Rattle.text_digits.specs.Decimal.{Decimal, number, value_in, cut}
 use Rattle.text_digits.specs.DecimalLaws.{leading}
 use Rattle.off_number.specs.OffNumber.{Point, millionth, Exact}
-use Rattle.off_number.specs.declared.Counted.{Counted}
 
 -- a number with no sign, and its value in millionths
 pub record Plain (text : List ℕ) (m : ℕ) : Type 0 where
@@ -21,6 +22,15 @@ InexactAt m = (s : ℕ) → Exact m s → ⊥
 
 abbrev pub BeyondAt : ℕ → Type 0
 BeyondAt m = Limits.shape_reach * millionth < m * Limits.steps
+
+-- 0 and the steps of a number with no sign, or the number of the refusal and 0
+pub record Counted : Type 0 where
+  pub number : ℕ
+  pub steps : ℕ
+
+abbrev pub counted_of : Result ℕ Refusal → Counted
+counted_of (Ok s) = record { number = Limits.done; steps = s }
+counted_of (Err r) = record { number = number_of r; steps = 0 }
 
 -- the answer to so many millionths
 pub record JudgedAs (m : ℕ) (r : Counted) : Type 0 where

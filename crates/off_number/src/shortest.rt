@@ -1,22 +1,21 @@
 // A number of steps written as the shortest exact decimal (document 02, W7), into lent room at a place.
 // It is spelled in a room of our own first, so that all of it is put or nothing.
-ghost use Rattle.std.specs.Prelude.{◌≡◌, [], ◌∷◌, ◌≤◌, ◌<◌, ◌+◌, ◌/◌, ◌%◌, min, nat_abs, length, take};
+ghost use Rattle.std.specs.Prelude.{[], ◌≤◌, ◌<◌, length};
 ghost use Rattle.ints.specs.Bounds.{Within};
 ghost use Rattle.limits.specs.Limits;
 ghost use Rattle.text_put.specs.Print.{Put, signed};
-ghost use Rattle.off_number.specs.Shortest.{part_of, pointed, plain_of, decimal_of};
-ghost use Rattle.off_number.specs.PartLaws.{decimals_of};
+ghost use Rattle.off_number.specs.Shortest.{part_of, pointed, decimal_of};
 ghost use Rattle.off_number.specs.Spelling.{Spelled};
 
-use text_put::{magnitude, put, put_number};
+use text_put::{put, put_number};
 
 // Steps to the millimetre, in the type that they are counted in.
-const STEPS: u64 = limits::STEPS as u64;
+const STEPS: u32 = limits::STEPS as u32;
 
 // "a step is 0.015625": so many millionths.
-const STEP_MILLIONTHS: u64 = 15625;
+const STEP_MILLIONTHS: u32 = 15625;
 
-const MILLIONTHS: u64 = 1000000;
+const MILLIONTHS: u32 = 1000000;
 
 // The longest number of a corner: a minus, four digits, a point and six digits.
 pub const LONGEST: usize = 12;
@@ -36,9 +35,9 @@ fn spell(text: &mut [u8; LONGEST], steps: i32) -> usize
     ensures { Spelled (decimal_of steps) text.new result }
 {
     let room = &mut text[..];
-    let n = magnitude(steps as i64);
+    let n = steps.unsigned_abs();
     let sign = put_sign(room, steps);
-    let whole = put_number(room, sign, (n / STEPS) as i64);
+    let whole = put_number(room, sign, i64::from(n / STEPS));
     put_part(room, whole, n % STEPS)
 }
 
@@ -55,7 +54,7 @@ fn put_sign(room: &mut [u8], steps: i32) -> usize
 }
 
 // The point and the digits behind it of so many steps, less than a millimetre. A million in front keeps the zeros that they may start with.
-fn put_part(room: &mut [u8], at: usize, r: u64) -> usize
+fn put_part(room: &mut [u8], at: usize, r: u32) -> usize
     requires { r < Limits.steps }
     ensures { Put room.old at (pointed (part_of r)) room.new result }
 {
@@ -63,21 +62,9 @@ fn put_part(room: &mut [u8], at: usize, r: u64) -> usize
         return at;
     }
     let mut digits = [0u8; 20];
-    io::decimal(MILLIONTHS + r * STEP_MILLIONTHS, &mut digits);
+    io::decimal(u64::from(MILLIONTHS + r * STEP_MILLIONTHS), &mut digits);
     digits[0] = b'.';
-    let n = 1 + decimals(r);
-    put(room, at, &digits[..n])
-}
-
-// How many digits stand behind the point.
-fn decimals(r: u64) -> usize
-    ensures { result ≡ decimals_of r }
-{
-    1 + some(r % 32) + some(r % 16) + some(r % 8) + some(r % 4) + some(r % 2)
-}
-
-fn some(x: u64) -> usize
-    ensures { result ≡ min x 1 }
-{
-    if x == 0 { 0 } else { 1 }
+    // A 64th takes six digits, and one fewer for each factor of two in how many there are.
+    let decimals = limits::OFF_DIGITS - r.trailing_zeros() as usize;
+    put(room, at, &digits[..1 + decimals])
 }

@@ -1,14 +1,13 @@
 -- Numbers of a text judged one after the other: none, one more, and that the empty word is none.
 -- The definitions stand in Corners and Passes.
-use Rattle.std.specs.Prelude.{ℕ, ◌+◌, ◌<◌, ◌≡◌, refl, Bool, true, false, List, [], ◌∷◌, ℤ, length}
+use Rattle.std.specs.Prelude.{ℕ, zero, suc, ◌+◌, ◌<◌, ◌≡◌, refl, Bool, true, false, List, [], ◌∷◌, ℤ, length}
 use Rattle.std.proofs.Common.{ap, ap₂, subst, inl, inr, arith, length-append}
 use Rattle.std.proofs.Math.Decide.{dec_lt}
 use Rattle.limits.specs.Limits
-use Rattle.limits.specs.Lowest.{Refusal, Lowest, ◌when◌}
-use Rattle.scans.specs.Lower.{lower_none}
+use Rattle.limits.specs.Lowest.{Rule, Lowest, ◌when◌}
+use Rattle.scans.specs.Lower.{lower_left, lower_none}
 use Rattle.scans.specs.Scanned.{lower_of}
-use Rattle.off_number.specs.OffNumber.{IsNumber, NumberAs, Inexact, Beyond, InSteps, word_refusals, NumberReadAs}
-use Rattle.off_number.specs.declared.NumberRead.{NumberRead}
+use Rattle.off_number.specs.OffNumber.{IsNumber, NumberAs, Inexact, Beyond, InSteps, word_refusals, NumberRead, NumberReadAs}
 use Rattle.off_text.specs.Off.{word_at, AnyWord}
 use Rattle.off_text.specs.FaceLaws.{each_more}
 use Rattle.off_read.specs.Passes.{number_refusals, Taken, NumbersJudged}
@@ -37,7 +36,7 @@ module _ (P : List ℕ → Type 0) (n : ℕ) (words : List (List ℕ)) where
       go (no l) = let e : h.0 ≡ n = omega (arith, h.1) in g (subst (λ (k : ℕ). P (word_at words k)) e h.2)
 
 -- ---- one word that is a number, by its answer
-abbrev one_refusals : List ℕ → List Refusal
+abbrev one_refusals : List ℕ → List Rule
 one_refusals word = Limits.not_whole when Inexact word ∷ Limits.float_range when Beyond word ∷ []
 
 record WordJudged (word : List ℕ) (k : ℕ) : Type 0 where
@@ -69,6 +68,11 @@ lowest_more n words (inr (a, inr b)) (inl c) = inl (any_last Inexact n words c.0
 lowest_more n words (inr (a, inr b)) (inr (c, inl d)) = inr (any_neither Inexact n words a c, inl (any_last Beyond n words d.0, ap₂ lower_of b.1 d.1))
 lowest_more n words (inr (a, inr b)) (inr (c, inr d)) =
     inr (any_neither Inexact n words a c, inr (any_neither Beyond n words b.0 d.0, ap₂ lower_of b.1 d.1))
+
+-- one that is done lowers nothing
+pub lower_done : (k : ℕ) → lower_of k Limits.done ≡ k
+lower_done zero = refl
+lower_done (suc k) = lower_left (suc k) Limits.done (omega arith) (inl refl)
 
 -- ---- the numbers judged
 none_any : (P : List ℕ → Type 0) (words : List (List ℕ)) → AnyWord P 0 words → ⊥

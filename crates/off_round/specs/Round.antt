@@ -16,8 +16,7 @@ use Rattle.off_number.specs.Shortest.{decimal_of}
 use Rattle.off_number.proofs.ShortestLaws.{decimal_steps, steps_size}
 use Rattle.off_text.specs.Off.{off, words_in, word_at, IsCount, IsOff, Faces, corner_count, face_count, after_counts}
 use Rattle.off_text.proofs.TextLaws.{comma_free}
-use Rattle.off_read.specs.Corners.{corner_numbers, off_refusals, OffReadAs}
-use Rattle.off_read.specs.declared.OffRead.{OffRead}
+use Rattle.off_read.specs.Corners.{corner_numbers, off_refusals, OffRead, OffReadAs}
 use Rattle.off_write.specs.Written.{off_text}
 use Rattle.off_round.specs.Words.{nought, text_words_lem, text_uncut}
 

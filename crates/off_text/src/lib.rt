@@ -1,253 +1,169 @@
 // OFF texts, word by word (document 02, W7): a comma outside comments, the next word, counts, and whether the faces are right.
-// A text may be any bytes, of any length. A place is never inside a comment, and nothing is copied.
+// A text may be any bytes, of any length. What is left of it never starts inside a comment, and nothing is copied.
 #![tactic(auto)]
 
-ghost use Rattle.std.specs.Prelude.{◌+◌, ◌≤◌, ◌<◌, ◌*◌, ◌-◌, min, ◌≡◌, length, drop};
+ghost use Rattle.std.specs.Prelude.{◌+◌, ◌≤◌, ◌<◌, ◌*◌, ◌-◌, ◌≡◌, not, [], length, drop, position, MatchOption};
+ghost use Rattle.std.specs.Char.{is_ascii_digit};
+ghost use Rattle.std.specs.List.{list_all};
 ghost use Rattle.limits.specs.Decides.{Decides};
-ghost use Rattle.text_digits.specs.Decimal.{Digit, Digits, number};
+ghost use Rattle.text_digits.specs.Decimal.{Digit};
 ghost use Rattle.off_text.specs.Off.{CommaOutside, white, words_in, IsCount, Faces};
-ghost use Rattle.off_text.specs.Walk.{plain, run, PassedAs, StartAs, NextAs, BelowAs, CountedAs, IndicesAs, FaceAs};
+ghost use Rattle.off_text.specs.Walk.{plain, PassedAs, StartAs, NextAs, BelowAs, CountedAs, IndicesAs, FaceAs};
 
-use text_digits::is_digit;
-
-// Where a word stands; where there is none both are the text's length.
-#[derive(Drop)]
-pub struct Word {
-    pub start: usize,
-    pub end: usize,
-}
-
-// A count and the place behind it.
-#[derive(Drop)]
-pub struct Counted {
-    pub value: usize,
-    pub next: usize,
-}
-
-// Whether what was looked for stands there, and if so the place behind it.
-#[derive(Drop)]
-struct Passage {
-    good: bool,
-    next: usize,
-}
-
-// The place behind the comment that starts at a place, where one does, and else behind the byte there.
-fn passed(text: &[u8], at: usize) -> usize
-    requires { at < length text.now }
-    ensures { PassedAs text.now at result }
+// What is left behind the comment that a text starts with, or else behind its first byte.
+fn passed(text: &[u8]) -> &[u8]
+    requires { 0 < length text.now }
+    ensures { PassedAs text.now result.now }
 {
-    if text[at] == b'#' {
-        return text_cut::part_end(text, at, b'\n');
+    if text[0] == b'#' {
+        return &text[text_cut::part_end(text, 0, b'\n')..];
     }
-    at + 1
+    &text[1..]
 }
 
 // Whether a comma stands outside comments.
 pub fn has_comma(text: &[u8]) -> bool
     ensures { Decides result (CommaOutside text.now) }
 {
-    let mut i: usize = 0;
-    while i < text.len() {
-        if text[i] == b',' {
+    let mut rest = text;
+    while let Some(b) = rest.first() {
+        if *b == b',' {
             return true;
         }
-        i = passed(text, i);
+        rest = passed(rest);
     }
     false
 }
 
+#[tactic(auto, unfolding(crate::specs::Off::white))]
 fn is_white(b: u8) -> bool
     ensures { result ≡ white b }
 {
-    if b == b'\t' {
-        return true;
-    }
-    if b == b'\n' {
-        return true;
-    }
-    if b == b'\r' {
-        return true;
-    }
-    b == b' '
+    b == b'\t' || b == b'\n' || b == b'\r' || b == b' '
 }
 
 fn in_word(b: u8) -> bool
     ensures { result ≡ plain b }
 {
-    if is_white(b) {
-        return false;
-    }
-    b != b'#'
+    !is_white(b) && b != b'#'
 }
 
-// Where the next word starts: white space and comments are passed.
-fn word_start(text: &[u8], at: usize) -> usize
-    requires { at ≤ length text.now }
-    ensures { StartAs text.now at result }
+// What is left from the next word on: white space and comments are passed.
+fn word_start(text: &[u8]) -> &[u8]
+    ensures { StartAs text.now result.now }
 {
-    let mut i = at;
-    while i < text.len() {
-        let b = text[i];
-        if in_word(b) {
-            return i;
+    let mut rest = text;
+    while let Some(b) = rest.first() {
+        if in_word(*b) {
+            return rest;
         }
-        i = passed(text, i);
+        rest = passed(rest);
     }
-    i
+    rest
 }
 
-// Where the word ends that starts at a place.
-fn word_end(text: &[u8], start: usize) -> usize
-    requires { start ≤ length text.now }
-    ensures place { result ≡ start + length (run (drop start text.now)) }
-    ensures within { result ≤ length text.now }
+// Where the word ends that a text starts with; nothing where it is all of the text.
+fn word_end(text: &[u8]) -> Option<usize>
+    ensures { result ≡ position (λ b. not (plain b)) text.now }
 {
-    let mut i = start;
-    while i < text.len() {
-        let b = text[i];
-        if !in_word(b) {
-            return i;
+    text.iter().position(|b| !in_word(*b))
+}
+
+// The words that are left of a text.
+#[derive(Drop)]
+pub struct Words<'a> {
+    pub rest: &'a [u8],
+}
+
+impl<'a> Words<'a> {
+    // The next word; nothing where there is none.
+    pub fn next_word(&mut self) -> Option<&'a [u8]>
+        ensures next { MatchOption result (words_in self.old.rest.now ≡ []) (λ w. NextAs self.old.rest.now w.now self.new.rest.now) }
+        ensures rest { words_in self.new.rest.now ≡ drop 1 (words_in self.old.rest.now) }
+    {
+        let start = word_start(self.rest);
+        if start.is_empty() {
+            return None;
         }
-        i += 1;
+        let (word, rest) = start.split_at(word_end(start).unwrap_or(start.len()));
+        self.rest = rest;
+        Some(word)
     }
-    i
-}
 
-// The next word from a place on.
-pub fn next_word(text: &[u8], at: usize) -> Word
-    requires { at ≤ length text.now }
-    ensures { NextAs text.now at result }
-{
-    let start = word_start(text, at);
-    let end = word_end(text, start);
-    Word { start, end }
+    // The next word as a number below a bound; nothing where it is none.
+    pub fn next_below(&mut self, bound: usize) -> Option<usize>
+        ensures { CountedAs bound self.old.rest.now result self.new.rest.now }
+    {
+        below(self.next_word()?, bound)
+    }
 }
 
 // Whether a word is digits, one or more.
 pub fn is_count(word: &[u8]) -> bool
     ensures { Decides result (IsCount word.now) }
 {
-    let mut i: usize = 0;
-    while i < word.len() {
-        let b = word[i];
-        if !is_digit(b) {
-            return false;
-        }
-        i += 1;
-    }
-    0 < i
+    !word.is_empty() && are_digits(word)
 }
 
-// A number with one digit more behind it, or the bound where that is as large; no number on the way is larger than the bound.
-fn one_more(value: usize, b: u8, bound: usize) -> usize
-    requires { (value ≤ bound) × Digit b }
-    ensures { result ≡ min (value * 10 + (b - 48)) bound }
+fn are_digits(word: &[u8]) -> bool
+    ensures { result ≡ list_all is_ascii_digit word.now }
 {
-    if bound / 10 < value {
-        return bound;
-    }
-    let tens = value * 10;
-    let digit = (b - b'0') as usize;
-    if bound - tens <= digit {
-        return bound;
-    }
-    tens + digit
+    word.iter().all(|b| b.is_ascii_digit())
 }
 
-// The number that digits name, or the bound where it is as large.
-fn number_to(word: &[u8], bound: usize) -> usize
-    requires { Digits word.now }
-    ensures { result ≡ min (number word.now) bound }
+// A number with one digit more behind it, where that is below the bound.
+fn one_more(value: usize, b: u8, bound: usize) -> Option<usize>
+    requires { Digit b }
+    ensures { MatchOption result (bound ≤ value * 10 + (b - 48)) (λ n. (n ≡ value * 10 + (b - 48)) × (n < bound)) }
 {
-    let mut value: usize = 0;
-    let mut i: usize = 0;
-    while i < word.len() {
-        value = one_more(value, word[i], bound);
-        i += 1;
-    }
-    value
+    let next = value.checked_mul(10)?.checked_add(usize::from(b - b'0'))?;
+    if next < bound { Some(next) } else { None }
 }
 
-// The number that a word of digits names, where it is below the bound, and else the bound.
-fn below(word: &[u8], bound: usize) -> usize
+// The number that a word of digits names, where it is below the bound.
+fn below(word: &[u8], bound: usize) -> Option<usize>
     ensures { BelowAs bound word.now result }
 {
-    if is_count(word) {
-        return number_to(word, bound);
+    if !is_count(word) {
+        return None;
     }
-    bound
-}
-
-// The next word as a count. Where so many words follow it, it is below the text's length; any other is the text's length here.
-pub fn next_count(text: &[u8], at: usize) -> Counted
-    requires { at ≤ length text.now }
-    ensures { CountedAs text.now at result }
-{
-    let word = next_word(text, at);
-    let start = word.start;
-    let end = word.end;
-    let value = below(&text[start..end], text.len());
-    Counted { value, next: end }
+    let mut value: usize = 0;
+    for b in word {
+        value = one_more(value, *b, bound)?;
+    }
+    Some(value)
 }
 
 // Whether the next n words name corners.
-fn indices(text: &[u8], from: usize, corners: usize, n: usize) -> Passage
-    requires { from ≤ length text.now }
-    ensures { IndicesAs corners n (words_in (drop from text.now)) text.now result }
+fn indices(words: &mut Words<'_>, corners: usize, n: usize) -> bool
+    ensures { IndicesAs corners n (words_in words.old.rest.now) result words.new.rest.now }
 {
-    let mut at = from;
-    let mut i: usize = 0;
-    while i < n {
-        let word = next_word(text, at);
-        let start = word.start;
-        let end = word.end;
-        let index = below(&text[start..end], corners);
-        if corners <= index {
-            return Passage {
-                good: false,
-                next: at,
-            };
-        }
-        at = end;
-        i += 1;
-    }
-    Passage {
-        good: true,
-        next: at,
-    }
-}
-
-// Whether the next words are a face: a number n and n indices.
-fn face(text: &[u8], at: usize, corners: usize) -> Passage
-    requires { at ≤ length text.now }
-    ensures { FaceAs corners (words_in (drop at text.now)) text.now result }
-{
-    let count = next_count(text, at);
-    let n = count.value;
-    if text.len() <= n {
-        return Passage {
-            good: false,
-            next: at,
-        };
-    }
-    indices(text, count.next, corners, n)
-}
-
-// Whether the words from a place on are so many faces, and nothing follows the last.
-pub fn faces(text: &[u8], from: usize, corners: usize, count: usize) -> bool
-    requires { from ≤ length text.now }
-    ensures { Decides result (Faces corners count (words_in (drop from text.now))) }
-{
-    let mut at = from;
-    let mut left = count;
-    while 0 < left {
-        let passage = face(text, at, corners);
-        if !passage.good {
+    for i in 0..n {
+        if words.next_below(corners).is_none() {
             return false;
         }
-        at = passage.next;
-        left -= 1;
     }
-    let word = next_word(text, at);
-    word.start == word.end
+    true
+}
+
+// Whether the next words are a face: a number n and n indices. No number that so many words follow is as large as what is left of the text.
+fn face(words: &mut Words<'_>, corners: usize) -> bool
+    ensures { FaceAs corners (words_in words.old.rest.now) result words.new.rest.now }
+{
+    match words.next_below(words.rest.len()) {
+        Some(n) => indices(words, corners, n),
+        None => false,
+    }
+}
+
+// Whether the words that are left are so many faces, and nothing follows the last.
+pub fn faces(words: &mut Words<'_>, corners: usize, count: usize) -> bool
+    ensures { Decides result (Faces corners count (words_in words.old.rest.now)) }
+{
+    for i in 0..count {
+        if !face(words, corners) {
+            return false;
+        }
+    }
+    words.next_word().is_none()
 }

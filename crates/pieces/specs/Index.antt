@@ -1,9 +1,8 @@
 -- A signed number as an index: itself where it is one of 0 to n − 1.
--- Where it is not, its index is n.
-use Rattle.std.specs.Prelude.{◌≡◌, ℕ, ◌<◌, ◌≤◌, ℤ, nat_abs}
+-- Where it is not, it has none.
+use Rattle.std.specs.Prelude.{◌≡◌, ℕ, ℤ, nat_abs, Option, Some, None}
 use Rattle.limits.specs.Numbered.{Numbered}
 
-pub record Indexed (n : ℕ) (z : ℤ) (i : ℕ) : Type 0 where
-  pub yes : i < n → Numbered n z × (i ≡ nat_abs z)
-  pub no : n ≤ i → Numbered n z → ⊥
-  pub most : i ≤ n
+abbrev pub Indexed : ℕ → ℤ → Option ℕ → Type 0
+Indexed n z (Some i) = Numbered n z × (i ≡ nat_abs z)
+Indexed n z None = Numbered n z → ⊥

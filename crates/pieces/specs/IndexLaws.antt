@@ -1,6 +1,6 @@
 -- Laws of a number as an index: how it is found, that it is one, and what a cell of a lent array is read as.
 -- Whether a number is one of 0 to n − 1 is decided by its sign and its magnitude.
-use Rattle.std.specs.Prelude.{◌≡◌, refl, Bool, true, false, not, ◌⊎◌, ℕ, ◌<◌, ◌≤◌, eqb, ℤ, pos, negsuc, nat_abs, ◌≤ℤ◌, ◌<ℤ◌}
+use Rattle.std.specs.Prelude.{◌≡◌, refl, Bool, true, false, not, ◌⊎◌, ℕ, ◌<◌, ◌≤◌, eqb, ℤ, pos, negsuc, nat_abs, ◌≤ℤ◌, ◌<ℤ◌, Option, Some, None}
 use Rattle.std.proofs.Common.{sym, ap, ◌∙◌, subst, inl, inr, ⊎_elim, arith, SFits, to_z, of_z, to_z-of_z, eqb-true}
 use Rattle.std.specs.Int.{w32}
 use Rattle.std.proofs.Math.Facts.{sfits_lit}
@@ -16,39 +16,48 @@ use Rattle.limits.specs.Numbered.{Numbered}
 use Rattle.pieces.specs.Index.{Indexed}
 
 -- ---- an index
-pub below-zero : (n : ℕ) (z : ℤ) → z <ℤ pos 0 → Indexed n z n
-below-zero n z h = record { yes = λ k. absurd (omega arith); no = λ _ k. clash_ℤ h (subst (λ (y : ℤ). pos 0 ≤ℤ y) (sym k.natural) (nn_pos (nat_abs z))); most = omega arith }
 
-pub from_zero : (n : ℕ) (z : ℤ) → pos 0 ≤ℤ z → nat_abs z < n → Indexed n z (nat_abs z)
-from_zero n z h k = record { yes = λ _. (record { natural = nat_of h; below = k }, refl); no = λ l m. omega (arith, m.below); most = omega arith }
+-- a number below zero has none
+pub below-zero : (n : ℕ) (z : ℤ) → z <ℤ pos 0 → Indexed n z None
+below-zero n z h k = clash_ℤ h (subst (λ (y : ℤ). pos 0 ≤ℤ y) (sym k.natural) (nn_pos (nat_abs z)))
 
-pub too_great : (n : ℕ) (z : ℤ) → n ≤ nat_abs z → Indexed n z n
-too_great n z h = record { yes = λ k. absurd (omega arith); no = λ _ m. omega (arith, m.below); most = omega arith }
+-- a number from 0 to n − 1 has its magnitude, and one that is too great has none
+pub from_zero : (n : ℕ) (z : ℤ) → pos 0 ≤ℤ z → nat_abs z < n → Indexed n z (Some (nat_abs z))
+from_zero n z h k = (record { natural = nat_of h; below = k }, refl)
 
--- a number that is one of 0 to n − 1 is its own index
-pub indexed_is : {n : ℕ} {z : ℤ} {i : ℕ} → Indexed n z i → Numbered n z → i ≡ nat_abs z
-indexed_is {n} {z} {i} x k = ⊎_elim (λ (h : i < n). (x.yes h).1) (λ (h : n ≤ i). absurd (x.no h k)) (lt-or-ge i n)
+pub too_great : (n : ℕ) (z : ℤ) → n ≤ nat_abs z → Indexed n z None
+too_great n z h k = omega (arith, k.below)
 
-pub indexed_none : {n : ℕ} {z : ℤ} {i : ℕ} → Indexed n z i → (Numbered n z → ⊥) → i ≡ n
-indexed_none {n} {z} {i} x f = ⊎_elim (λ (h : i < n). absurd (f (x.yes h).0)) (λ (h : n ≤ i). omega (arith, x.most)) (lt-or-ge i n)
+-- the index of a number that is one of 0 to n − 1 is its own magnitude
+pub indexed_is : {n : ℕ} {z : ℤ} {r : Option ℕ} → Indexed n z r → Numbered n z → r ≡ Some (nat_abs z)
+indexed_is {r = Some i} x k = ap Some x.1
+indexed_is {r = None} x k = absurd (x k)
+
+pub indexed_none : {n : ℕ} {z : ℤ} {r : Option ℕ} → Indexed n z r → (Numbered n z → ⊥) → r ≡ None
+indexed_none {r = Some i} x f = absurd (f x.0)
+indexed_none {r = None} x f = refl
 
 numbered? : (n : ℕ) (z : ℤ) → Numbered n z ⊎ (Numbered n z → ⊥)
 numbered? n z =
     ⊎_elim
     (λ (h : pos 0 ≤ℤ z). ⊎_elim (λ (k : nat_abs z < n). inl (record { natural = nat_of h; below = k })) (λ (k : n ≤ nat_abs z). inr (λ m. omega (arith, m.below))) (lt-or-ge (nat_abs z) n))
-    (λ (h : z <ℤ pos 0). inr ((below-zero n z h).no (omega arith)))
+    (λ (h : z <ℤ pos 0). inr (below-zero n z h))
     (le-or-lt (pos 0) z)
 
-pub indexed_once : {n : ℕ} {z : ℤ} {i j : ℕ} → Indexed n z i → Indexed n z j → i ≡ j
-indexed_once {n} {z} x y =
+pub indexed_once : (n : ℕ) (z : ℤ) {q r : Option ℕ} → Indexed n z q → Indexed n z r → q ≡ r
+indexed_once n z x y =
     ⊎_elim (λ (k : Numbered n z). indexed_is x k ∙ sym (indexed_is y k)) (λ (f : Numbered n z → ⊥). indexed_none x f ∙ sym (indexed_none y f)) (numbered? n z)
 
 -- the same of a cell of a lent array, as the code reads it
-pub cell_indexed : {n i : ℕ} {z : ℤ} → SFits w32 z → Indexed n (to_z w32 (of_z w32 z)) i → Indexed n z i
-cell_indexed {n} {i} f x = subst (λ (y : ℤ). Indexed n y i) (to_z-of_z f) x
+pub cell_indexed : (n : ℕ) {z : ℤ} (r : Option ℕ) → SFits w32 z → Indexed n (to_z w32 (of_z w32 z)) r → Indexed n z r
+cell_indexed n r f x = subst (λ (y : ℤ). Indexed n y r) (to_z-of_z f) x
 
-pub cell-index : {n i : ℕ} {z : ℤ} → SFits w32 z → Indexed n (to_z w32 (of_z w32 z)) i → Numbered n z → i ≡ nat_abs z
-cell-index f x k = indexed_is (cell_indexed f x) k
+pub cell-index : {n : ℕ} {z : ℤ} (r : Option ℕ) → SFits w32 z → Indexed n (to_z w32 (of_z w32 z)) r → Numbered n z → r ≡ Some (nat_abs z)
+cell-index {n} r f x k = indexed_is (cell_indexed n r f x) k
+
+-- a cell of a lent array that is one of 0 to n − 1 is read as it is
+pub cell_numbered : {n : ℕ} {z : ℤ} → n ≤ 2147483648 → Numbered n z → to_z w32 (of_z w32 z) ≡ z
+cell_numbered {z} h k = to_z-of_z (subst (λ (y : ℤ). SFits w32 y) (sym k.natural) (record { sfits = omega (arith, k.below) }))
 
 -- whether a cell is 0: the test that is made compares bits
 abs_zero : (z : ℤ) → nat_abs z ≡ 0 → z ≡ pos 0

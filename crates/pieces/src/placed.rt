@@ -1,13 +1,12 @@
 // The piece at a taken place: its placed corners as a list, and how many they are.
 // A turned and moved corner is worked out coordinate by coordinate, where it is needed.
-ghost use Rattle.std.specs.Prelude.{◌≡◌, ◌≤◌, ◌<◌, pos, replicate};
+ghost use Rattle.std.specs.Prelude.{◌≡◌, ◌≤◌, ◌<◌};
 ghost use Rattle.ints.specs.Bounds.{Within};
 ghost use Rattle.limits.specs.Limits;
 ghost use Rattle.pieces.specs.Pieces.{store_of, count_at};
 ghost use Rattle.pieces.specs.Boxes.{PlacedPiece, Numbers};
 ghost use Rattle.pieces.specs.Placed.{number_at, PoseFits, NumbersOf, PoseAsked, pose_of};
 
-use crate::index::index_of;
 use turns::placed_axis;
 
 // Where the numbers of a piece's shape start, how many corners it has, and its turn.
@@ -30,19 +29,11 @@ fn placed_number(
     requires { PoseFits shapes.now places.now pose place × (i < pose.count) × (axis < 3) }
     ensures { (result ≡ number_at shapes.now places.now pose place i axis) × Within Limits.placed_reach result }
 {
-    let start = pose.start;
-    let turn = pose.turn;
-    let x = shapes[start + 3 * i];
-    let y = shapes[start + (3 * i + 1)];
-    let z = shapes[start + (3 * i + 2)];
+    let x = shapes[pose.start + 3 * i];
+    let y = shapes[pose.start + (3 * i + 1)];
+    let z = shapes[pose.start + (3 * i + 2)];
     let offset = places[limits::PLACE_CELLS * place + 2 + axis];
-    placed_axis(turn, axis, x, y, z, offset)
-}
-
-fn no_numbers() -> [i32; limits::SHAPE_NUMBERS]
-    ensures { result ≡ replicate Limits.shape_numbers (pos 0) }
-{
-    [0i32; limits::SHAPE_NUMBERS]
+    placed_axis(pose.turn, axis, x, y, z, offset)
 }
 
 // The placed corners of a piece, three numbers each; the rest of the array is 0.
@@ -55,13 +46,9 @@ fn numbers_of(
     requires { PoseFits shapes.now places.now pose place }
     ensures { NumbersOf shapes.now places.now pose place result }
 {
-    let n = pose.count;
-    let mut numbers = no_numbers();
-    let mut k = 0;
-    while k < 3 * n {
-        let v = placed_number(shapes, places, pose, place, k / 3, k % 3);
-        numbers[k] = v;
-        k += 1;
+    let mut numbers = [0; limits::SHAPE_NUMBERS];
+    for k in 0..3 * pose.count {
+        numbers[k] = placed_number(shapes, places, pose, place, k / 3, k % 3);
     }
     numbers
 }
@@ -75,14 +62,14 @@ fn pose_of(
     requires { PoseAsked shapes.now places.now place }
     ensures { result ≡ pose_of shapes.now places.now place }
 {
-    let held = index_of(places[limits::PLACE_CELLS * place], limits::SHAPES + 1);
-    let turn = index_of(places[limits::PLACE_CELLS * place + 1], limits::TURNS);
+    let held = places[limits::PLACE_CELLS * place] as usize;
+    let turn = places[limits::PLACE_CELLS * place + 1] as usize;
     let cell = (held - 1) * limits::SHAPE_CELLS;
-    let count = index_of(shapes[cell], limits::CORNERS + 1);
+    let count = shapes[cell] as usize;
     Pose {
         start: cell + 1,
-        count: count,
-        turn: turn,
+        count,
+        turn,
     }
 }
 
@@ -95,8 +82,7 @@ pub fn piece_numbers(
     requires { PlacedPiece (store_of shapes.now places.now) place }
     ensures { Numbers (store_of shapes.now places.now) place result }
 {
-    let pose = pose_of(shapes, places, place);
-    numbers_of(shapes, places, pose, place)
+    numbers_of(shapes, places, pose_of(shapes, places, place), place)
 }
 
 // How many corners it has.
@@ -108,6 +94,5 @@ pub fn piece_count(
     requires { PlacedPiece (store_of shapes.now places.now) place }
     ensures { (result ≡ count_at (store_of shapes.now places.now) place) × (result ≤ Limits.corners) }
 {
-    let pose = pose_of(shapes, places, place);
-    pose.count
+    pose_of(shapes, places, place).count
 }

@@ -27,15 +27,10 @@ pub fn put_placement(places: &mut [i32; limits::PLACES_LENGTH], place: usize, q:
     requires { (place < Limits.places) × Numbered Limits.shapes q.shape }
     ensures { places.new ≡ put_in places.old place q }
 {
-    let held = q.shape + 1;
-    let turn = q.turn;
-    let x = q.x;
-    let y = q.y;
-    let z = q.z;
     let at = limits::PLACE_CELLS * place;
-    places[at] = held;
-    places[at + 1] = turn;
-    places[at + 2] = x;
-    places[at + 3] = y;
-    places[at + 4] = z;
+    places[at] = q.shape + 1;
+    places[at + 1] = q.turn;
+    places[at + 2] = q.x;
+    places[at + 3] = q.y;
+    places[at + 4] = q.z;
 }

@@ -9,6 +9,5 @@ pub fn is_taken(places: &[i32; limits::PLACES_LENGTH], place: usize) -> bool
     requires { place < Limits.places }
     ensures { Decides result (Taken places.now place) }
 {
-    let held = places[limits::PLACE_CELLS * place];
-    held != 0
+    places[limits::PLACE_CELLS * place] != 0
 }

@@ -16,7 +16,7 @@ use Rattle.pieces_box.specs.ShapeBox.{ends_along, moved_by, box_of, box_held, en
 use Rattle.pieces_box.specs.NearLaws.{near_box, near_along, moved_near}
 use Rattle.pieces_box.proofs.TurnedLaws.{ends_of, ends_turned}
 
-module _ {d : Store} {boxes : List ℤ} (o : PiecesInOrder d) (b : Boxed d.shapes boxes) where
+module _ {d : Store} {boxes : List ShapeBox} (o : PiecesInOrder d) (b : Boxed d.shapes boxes) where
   module _ {p : ℕ} (t : Taken d.places p) where
     some : 1 ≤ count_at d p
     some = let l = (o.places.all p t).loaded.some in omega arith
@@ -71,7 +71,7 @@ module _ {d : Store} {boxes : List ℤ} (o : PiecesInOrder d) (b : Boxed d.shape
   keyed_in {axis} h k = record { ranged = ranged o axis h; is = λ mark l. k.is mark l ∙ key_in_lem axis mark l }
 
 -- ---- the keys of a place's two marks
-module _ (boxes places : List ℤ) (axis : ℕ) where
+module _ (boxes : List ShapeBox) (places : List ℤ) (axis : ℕ) where
   pub key_none : (mark : ℕ) → taken_in places (mark / 2) ≡ false → no_key ≡ key_in boxes places axis mark
   key_none mark e =
       sym (ap (λ (v : Bool). cond v (key_for (cond (eqb (mark % 2) 0) (ends_in boxes places axis (mark / 2)).low (ends_in boxes places axis (mark / 2)).high) mark) no_key) e)
@@ -114,7 +114,7 @@ keys_two f keys p {a} {b} l h ea eb k m =
         (get_or-set_same keys (2 * p) a 0 (omega arith) ∙ ea)
 
 -- ---- the keys of the first places: of none, of one more, of all
-module _ {boxes places : List ℤ} {axis : ℕ} {keys : List ℕ} where
+module _ {boxes : List ShapeBox} {places : List ℤ} {axis : ℕ} {keys : List ℕ} where
   pub keys_none : length keys ≡ Limits.axis_marks → KeysTo boxes places axis 0 keys
   keys_none e = record { long = e; is = λ k h. absurd (omega arith) }
 
@@ -129,5 +129,5 @@ module _ {boxes places : List ℤ} {axis : ℕ} {keys : List ℕ} where
   keys_all h t = record { long = t.long; is = λ mark l. t.is mark (omega arith) }
 
 -- the keys of an axis are one list
-pub keys_once : {boxes places : List ℤ} {axis : ℕ} {k l : List ℕ} → KeysIn boxes places axis k → KeysIn boxes places axis l → k ≡ l
+pub keys_once : {boxes : List ShapeBox} {places : List ℤ} {axis : ℕ} {k l : List ℕ} → KeysIn boxes places axis k → KeysIn boxes places axis l → k ≡ l
 keys_once {k} {l} x y = ext_get_or 0 k l (x.long ∙ sym y.long) (λ i h. x.is i (omega (arith, x.long)) ∙ sym (y.is i (omega (arith, x.long))))

@@ -1,6 +1,6 @@
 -- The box of a shape, before any turn: its least and its greatest number on each axis, found by one visit of its corners (request W3).
 -- "A turn only swaps or negates axes": `ends_along` is what a turn makes of it, and `Boxed` the table that a command works out once.
-use Rattle.std.specs.Prelude.{ℕ, ◌+◌, ◌-◌, ◌*◌, ◌/◌, ◌%◌, ◌<◌, ◌≡◌, cond, List, [], ◌∷◌, eqb, ℤ, pos, neg_ℤ, nat_abs, ◌+ℤ◌, length, get_or}
+use Rattle.std.specs.Prelude.{ℕ, ◌+◌, ◌-◌, ◌*◌, ◌/◌, ◌%◌, ◌<◌, ◌≡◌, cond, List, eqb, ℤ, pos, neg_ℤ, nat_abs, ◌+ℤ◌, length, get_or}
 use Rattle.std.specs.Int.Signed.{lt_z}
 use Rattle.limits.specs.Limits
 use Rattle.limits.specs.Numbered.{Numbered}
@@ -53,35 +53,22 @@ ends_along b k = cond (lt_z k (pos 0)) (opposed (ends_on b (axis_number (nat_abs
 abbrev pub moved_by : Ends → ℤ → Ends
 moved_by e o = record { low = e.low +ℤ o; high = e.high +ℤ o }
 
--- the table of boxes: six numbers a shape, low and high on x, on y, on z
-abbrev pub box_cells : ℕ
-box_cells = 6
-
-abbrev pub box_list : ShapeBox → List ℤ
-box_list b = b.x.low ∷ b.x.high ∷ b.y.low ∷ b.y.high ∷ b.z.low ∷ b.z.high ∷ []
-
-abbrev pub box_number : List ℤ → ℕ → ℕ → ℤ
-box_number boxes s k = get_or boxes (box_cells * s + k) (pos 0)
-
-abbrev pub box_in : List ℤ → ℕ → ShapeBox
-box_in boxes s = record {
-  x = record { low = box_number boxes s 0; high = box_number boxes s 1 };
-  y = record { low = box_number boxes s 2; high = box_number boxes s 3 };
-  z = record { low = box_number boxes s 4; high = box_number boxes s 5 };
-}
+-- the table of boxes: one for each shape
+abbrev pub box_in : List ShapeBox → ℕ → ShapeBox
+box_in boxes s = get_or boxes s (box_from (pos 0) (pos 0) (pos 0))
 
 -- the box of each loaded shape stands at its number
 abbrev pub BoxAt : List ℤ → ℕ → ShapeBox → Type 0
 BoxAt shapes s b = Numbered (Limits.corners + 1) (count_in shapes s) → (nat_abs (count_in shapes s) ≡ 0 → ⊥) → b ≡ box_of shapes s
 
-pub record Boxed (shapes boxes : List ℤ) : Type 0 where
+pub record Boxed (shapes : List ℤ) (boxes : List ShapeBox) : Type 0 where
   pub is : (s : ℕ) → s < Limits.shapes → BoxAt shapes s (box_in boxes s)
 
 -- the ends of the piece at a place, out of the boxes and the placements alone: those of the box along the axis that the turn puts there, moved by the offset
-abbrev pub box_held : List ℤ → List ℤ → ℕ → ShapeBox
+abbrev pub box_held : List ShapeBox → List ℤ → ℕ → ShapeBox
 box_held boxes places p = box_in boxes (nat_abs (held_in places p) - 1)
 
-abbrev pub ends_in : List ℤ → List ℤ → ℕ → ℕ → Ends
+abbrev pub ends_in : List ShapeBox → List ℤ → ℕ → ℕ → Ends
 ends_in boxes places axis p = moved_by (ends_along (box_held boxes places p) (signed_axis (nat_abs (turn_in places p)) axis)) (get_or places (Limits.place_cells * p + 2 + axis) (pos 0))
 
 -- what is asked of them: numbers in range
@@ -94,7 +81,7 @@ pub record NearBox (b : ShapeBox) : Type 0 where
   pub y : NearEnds b.y
   pub z : NearEnds b.z
 
-pub record EndsAsked (boxes places : List ℤ) (p : ℕ) : Type 0 where
+pub record EndsAsked (boxes : List ShapeBox) (places : List ℤ) (p : ℕ) : Type 0 where
   pub place : p < Limits.places
   pub some : nat_abs (held_in places p) ≡ 0 → ⊥
   pub shape : Numbered (Limits.shapes + 1) (held_in places p)
@@ -102,21 +89,21 @@ pub record EndsAsked (boxes places : List ℤ) (p : ℕ) : Type 0 where
   pub near : NearBox (box_held boxes places p)
   pub offset : (axis : ℕ) → axis < 3 → Within Limits.shape_reach (get_or places (Limits.place_cells * p + 2 + axis) (pos 0))
 
-pub record AllAsked (boxes places : List ℤ) : Type 0 where
+pub record AllAsked (boxes : List ShapeBox) (places : List ℤ) : Type 0 where
   pub all : (p : ℕ) → Taken places p → EndsAsked boxes places p
 
 -- the keys of all marks of an axis, out of the boxes and the placements alone
-abbrev pub key_in : List ℤ → List ℤ → ℕ → ℕ → ℕ
+abbrev pub key_in : List ShapeBox → List ℤ → ℕ → ℕ → ℕ
 key_in boxes places axis mark =
     cond (taken_in places (mark / 2))
     (key_for (cond (eqb (mark % 2) 0) (ends_in boxes places axis (mark / 2)).low (ends_in boxes places axis (mark / 2)).high) mark)
     no_key
 
-pub record KeysIn (boxes places : List ℤ) (axis : ℕ) (keys : List ℕ) : Type 0 where
+pub record KeysIn (boxes : List ShapeBox) (places : List ℤ) (axis : ℕ) (keys : List ℕ) : Type 0 where
   pub long : length keys ≡ Limits.axis_marks
   pub is : (mark : ℕ) → mark < Limits.axis_marks → get_or keys mark 0 ≡ key_in boxes places axis mark
 
 -- the same of the marks of the first so many places
-pub record KeysTo (boxes places : List ℤ) (axis n : ℕ) (keys : List ℕ) : Type 0 where
+pub record KeysTo (boxes : List ShapeBox) (places : List ℤ) (axis n : ℕ) (keys : List ℕ) : Type 0 where
   pub long : length keys ≡ Limits.axis_marks
   pub is : (mark : ℕ) → mark < 2 * n → get_or keys mark 0 ≡ key_in boxes places axis mark

@@ -4,6 +4,8 @@ ghost use Rattle.std.specs.Prelude.{◌≡◌, ℕ, ◌<◌, ◌≤◌, ◌+◌,
 ghost use Rattle.limits.specs.Limits;
 ghost use Rattle.pieces_box.specs.Apart.{key_step, ApartOnBy, ApartBy};
 
+use marks::Keys;
+
 // How much a key grows by one step of its mark's value.
 const KEY_STEP: usize = 2 * limits::PLACES;
 
@@ -28,30 +30,16 @@ fn apart_on(keys: &[u32; limits::AXIS_MARKS], shift: usize, p: usize, q: usize) 
     requires { (shift ≤ key_step * Limits.gap_most) × (p < Limits.places) × (q < Limits.places) }
     ensures { (g : ℕ) → shift ≡ key_step * g → ApartOnBy g keys.now p q result }
 {
-    if earlier(keys, shift, 2 * p + 1, 2 * q) {
-        return true;
-    }
-    earlier(keys, shift, 2 * q + 1, 2 * p)
+    earlier(keys, shift, 2 * p + 1, 2 * q) || earlier(keys, shift, 2 * q + 1, 2 * p)
 }
 
 // Whether the boxes of two taken places are apart, with a gap: left at the first axis that parts them.
-pub fn boxes_apart(
-    gap: u32,
-    x: &[u32; limits::AXIS_MARKS],
-    y: &[u32; limits::AXIS_MARKS],
-    z: &[u32; limits::AXIS_MARKS],
-    p: usize,
-    q: usize,
-) -> bool
+pub fn boxes_apart(gap: u32, keys: &Keys, p: usize, q: usize) -> bool
     requires { (gap ≤ Limits.gap_most) × (p < Limits.places) × (q < Limits.places) }
-    ensures { ApartBy gap x.now y.now z.now p q result }
+    ensures { ApartBy gap keys.now.x keys.now.y keys.now.z p q result }
 {
     let shift = KEY_STEP * gap as usize;
-    if apart_on(x, shift, p, q) {
-        return true;
-    }
-    if apart_on(y, shift, p, q) {
-        return true;
-    }
-    apart_on(z, shift, p, q)
+    apart_on(&keys.x, shift, p, q)
+        || apart_on(&keys.y, shift, p, q)
+        || apart_on(&keys.z, shift, p, q)
 }

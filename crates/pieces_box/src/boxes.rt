@@ -1,12 +1,12 @@
 // A shape's box: its least and its greatest number on each axis, before any turn.
 // One visit of the corners gives all six.
-ghost use Rattle.std.specs.Prelude.{◌≡◌, ◌<◌, ◌≤◌, ◌*◌, length};
-ghost use Rattle.std.proofs.lemmas.List.Edits.{sets};
+ghost use Rattle.std.specs.Prelude.{◌≡◌, ◌<◌, ◌≤◌};
 ghost use Rattle.limits.specs.Limits;
-ghost use Rattle.pieces_box.specs.ShapeBox.{box_to, box_from, stretched, widened, box_cells, box_list, box_in, BoxAt, Boxed};
-ghost use Rattle.pieces.specs.Pieces.{lesser, greater};
+ghost use Rattle.ints.specs.Bounds.{Within};
+ghost use Rattle.pieces_box.specs.ShapeBox.{box_to, box_from, ends_from, stretched, widened, opposed, moved_by, ends_along, BoxAt, Boxed, NearEnds, NearBox};
 
 use pieces::index::index_of;
+use turns::axis_number;
 
 // The least and the greatest number on one axis.
 #[derive(Clone, Copy)]
@@ -23,70 +23,92 @@ pub struct ShapeBox {
     pub z: Ends,
 }
 
-// The table of boxes: six numbers a shape, low and high on x, on y, on z.
-pub const BOX_CELLS: usize = 6;
-
-pub const BOXES: usize = BOX_CELLS * limits::SHAPES;
+// The table of boxes: one for each shape.
+pub type Boxes = [ShapeBox; limits::SHAPES];
 
 // What stands for the box of a shape that has none.
+// Stays: the table is read at loaded shapes alone; an Option would give every reading an arm that is never taken.
 const NO_BOX: ShapeBox = ShapeBox {
     x: Ends { low: 0, high: 0 },
     y: Ends { low: 0, high: 0 },
     z: Ends { low: 0, high: 0 },
 };
 
-fn lesser(a: i32, b: i32) -> i32
-    ensures { result ≡ lesser a b }
-{
-    if a < b {
-        return a;
+impl Ends {
+    // The ends of one number.
+    fn of(v: i32) -> Ends
+        ensures { result ≡ ends_from v }
+    {
+        Ends { low: v, high: v }
     }
-    b
-}
 
-fn greater(a: i32, b: i32) -> i32
-    ensures { result ≡ greater a b }
-{
-    if b < a {
-        return a;
+    // The ends with one number more.
+    fn stretched(self, v: i32) -> Ends
+        ensures { result ≡ stretched self v }
+    {
+        Ends {
+            low: v.min(self.low),
+            high: v.max(self.high),
+        }
     }
-    b
-}
 
-// The ends with one number more.
-fn stretched(e: Ends, v: i32) -> Ends
-    ensures { result ≡ stretched e v }
-{
-    let low = e.low;
-    let high = e.high;
-    Ends {
-        low: lesser(v, low),
-        high: greater(v, high),
+    // Negated and exchanged.
+    fn opposed(self) -> Ends
+        requires { NearEnds self }
+        ensures { result ≡ opposed self }
+    {
+        Ends {
+            low: -self.high,
+            high: -self.low,
+        }
     }
-}
 
-// The box with one corner more.
-fn widened(b: ShapeBox, x: i32, y: i32, z: i32) -> ShapeBox
-    ensures { result ≡ widened b x y z }
-{
-    let on_x = b.x;
-    let on_y = b.y;
-    let on_z = b.z;
-    ShapeBox {
-        x: stretched(on_x, x),
-        y: stretched(on_y, y),
-        z: stretched(on_z, z),
+    // Moved by an offset.
+    pub(crate) fn moved_by(self, offset: i32) -> Ends
+        requires { NearEnds self × Within Limits.shape_reach offset }
+        ensures { result ≡ moved_by self offset }
+    {
+        Ends {
+            low: self.low + offset,
+            high: self.high + offset,
+        }
     }
 }
 
-// The box of one corner.
-fn box_from(x: i32, y: i32, z: i32) -> ShapeBox
-    ensures { result ≡ box_from x y z }
-{
-    ShapeBox {
-        x: Ends { low: x, high: x },
-        y: Ends { low: y, high: y },
-        z: Ends { low: z, high: z },
+impl ShapeBox {
+    // The box of one corner.
+    fn of(x: i32, y: i32, z: i32) -> ShapeBox
+        ensures { result ≡ box_from x y z }
+    {
+        ShapeBox {
+            x: Ends::of(x),
+            y: Ends::of(y),
+            z: Ends::of(z),
+        }
+    }
+
+    // The box with one corner more.
+    fn widened(self, x: i32, y: i32, z: i32) -> ShapeBox
+        ensures { result ≡ widened self x y z }
+    {
+        ShapeBox {
+            x: self.x.stretched(x),
+            y: self.y.stretched(y),
+            z: self.z.stretched(z),
+        }
+    }
+
+    // The ends along a signed axis: negated and exchanged where it is less than 0.
+    pub(crate) fn along(self, k: i8) -> Ends
+        requires { NearBox self }
+        ensures { result ≡ ends_along self k }
+    {
+        let ends = match axis_number(k) {
+            0 => self.x,
+            1 => self.y,
+            _ => self.z,
+        };
+        if k < 0 { ends.opposed() } else { ends }
     }
 }
 
@@ -96,17 +118,10 @@ fn shape_box(shapes: &[i32; limits::SHAPES_LENGTH], shape: usize, count: usize) 
     ensures { result ≡ box_to shapes.now shape count }
 {
     let start = shape * limits::SHAPE_CELLS + 1;
-    let first_x = shapes[start];
-    let first_y = shapes[start + 1];
-    let first_z = shapes[start + 2];
-    let mut b = box_from(first_x, first_y, first_z);
-    let mut i = 1;
-    while i < count {
-        let x = shapes[start + 3 * i];
-        let y = shapes[start + (3 * i + 1)];
-        let z = shapes[start + (3 * i + 2)];
-        b = widened(b, x, y, z);
-        i += 1;
+    let mut b = ShapeBox::of(shapes[start], shapes[start + 1], shapes[start + 2]);
+    for i in 1..count {
+        let at = start + 3 * i;
+        b = b.widened(shapes[at], shapes[at + 1], shapes[at + 2]);
     }
     b
 }
@@ -116,77 +131,19 @@ fn box_at(shapes: &[i32; limits::SHAPES_LENGTH], shape: usize) -> ShapeBox
     requires { shape < Limits.shapes }
     ensures { BoxAt shapes.now shape result }
 {
-    let count = index_of(shapes[shape * limits::SHAPE_CELLS], limits::CORNERS + 1);
-    if count == 0 {
-        return NO_BOX;
+    match index_of(shapes[shape * limits::SHAPE_CELLS], limits::CORNERS + 1) {
+        None | Some(0) => NO_BOX,
+        Some(count) => shape_box(shapes, shape, count),
     }
-    if limits::CORNERS < count {
-        return NO_BOX;
-    }
-    shape_box(shapes, shape, count)
-}
-
-// A box stored in the table.
-fn put_box(boxes: &mut [i32; BOXES], shape: usize, b: ShapeBox)
-    requires { shape < Limits.shapes }
-    ensures { boxes.new ≡ sets boxes.old (box_cells * shape) (box_list b) }
-{
-    let on_x = b.x;
-    let on_y = b.y;
-    let on_z = b.z;
-    let x_low = on_x.low;
-    let x_high = on_x.high;
-    let y_low = on_y.low;
-    let y_high = on_y.high;
-    let z_low = on_z.low;
-    let z_high = on_z.high;
-    let at = BOX_CELLS * shape;
-    boxes[at] = x_low;
-    boxes[at + 1] = x_high;
-    boxes[at + 2] = y_low;
-    boxes[at + 3] = y_high;
-    boxes[at + 4] = z_low;
-    boxes[at + 5] = z_high;
-}
-
-// A box read from the table.
-pub fn box_in(boxes: &[i32; BOXES], shape: usize) -> ShapeBox
-    requires { shape < Limits.shapes }
-    ensures { result ≡ box_in boxes.now shape }
-{
-    let at = BOX_CELLS * shape;
-    ShapeBox {
-        x: Ends {
-            low: boxes[at],
-            high: boxes[at + 1],
-        },
-        y: Ends {
-            low: boxes[at + 2],
-            high: boxes[at + 3],
-        },
-        z: Ends {
-            low: boxes[at + 4],
-            high: boxes[at + 5],
-        },
-    }
-}
-
-fn no_boxes() -> [i32; BOXES]
-    ensures { length result ≡ box_cells * Limits.shapes }
-{
-    [0i32; BOXES]
 }
 
 // The boxes of all shapes.
-pub fn boxes_of(shapes: &[i32; limits::SHAPES_LENGTH]) -> [i32; BOXES]
+pub fn boxes_of(shapes: &[i32; limits::SHAPES_LENGTH]) -> Boxes
     ensures { Boxed shapes.now result }
 {
-    let mut boxes = no_boxes();
-    let mut shape = 0;
-    while shape < limits::SHAPES {
-        let b = box_at(shapes, shape);
-        put_box(&mut boxes, shape, b);
-        shape += 1;
+    let mut boxes = [NO_BOX; limits::SHAPES];
+    for shape in 0..limits::SHAPES {
+        boxes[shape] = box_at(shapes, shape);
     }
     boxes
 }

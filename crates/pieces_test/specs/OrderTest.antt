@@ -11,6 +11,7 @@ use Rattle.limits.specs.Decides.{Decides}
 use Rattle.limits.specs.DecidesLaws.{decides_once}
 use Rattle.space.specs.Lists.{InReach}
 use Rattle.pieces.specs.IndexLaws.{some_decided}
+use Rattle.pieces_box.specs.declared.boxes.ShapeBox.{ShapeBox}
 use Rattle.pieces_box.specs.ShapeBox.{box_of, box_in, Boxed, NearBox}
 use Rattle.pieces_box.specs.NearLaws.{near_box, box_near_lem}
 use Rattle.pieces.specs.Pieces.{Store, store_of, count_in, corners_of, shape_value, held_in, turn_in, shape_at, Taken, Loaded, ShapesInOrder, PlaceInOrder, PlacesInOrder, PiecesInOrder}
@@ -56,7 +57,7 @@ pub shape_none : (d : Store) (s : ℕ) → Numbered (Limits.corners + 1) (count_
 shape_none d s few e = record { few = few; near = λ k h. absurd (omega arith) }
 
 -- a shape that has few enough corners is in order where its box is near
-pub shape_decided : {r : Bool} {boxes : List ℤ} (d : Store) (s : ℕ) → s < Limits.shapes → Boxed d.shapes boxes → Numbered (Limits.corners + 1) (count_in d.shapes s)
+pub shape_decided : {r : Bool} {boxes : List ShapeBox} (d : Store) (s : ℕ) → s < Limits.shapes → Boxed d.shapes boxes → Numbered (Limits.corners + 1) (count_in d.shapes s)
     → (corners_of d s ≡ 0 → ⊥) → Decides r (NearBox (box_in boxes s)) → Decides r (ShapeInOrder d s)
 shape_decided {r} {boxes} d s h b few some n = record {
   yes = λ t. record { few = few; near = box_near_lem d.shapes s (corners_of d s) (subst NearBox is (n.yes t)) };

@@ -11,79 +11,57 @@ ghost use Rattle.pieces_test.specs.OrderTest.{NearFrom, ShapeInOrder, PlaceKept,
 
 use pieces::index::index_of;
 use pieces::taking::is_taken;
-use pieces_box::boxes::{BOXES, Ends, ShapeBox, box_in};
+use pieces_box::boxes::{Boxes, Ends, ShapeBox};
 use space::{in_reach, near};
 
 // Whether shapes and places of any contents are in order. The boxes are those of the shapes, so no corner is looked at.
 pub fn pieces_in_order(
     shapes: &[i32; limits::SHAPES_LENGTH],
     places: &[i32; limits::PLACES_LENGTH],
-    boxes: &[i32; BOXES],
+    boxes: &Boxes,
 ) -> bool
     requires { Boxed shapes.now boxes.now }
     ensures { Decides result (PiecesInOrder (store_of shapes.now places.now)) }
 {
-    if !shapes_in_order(shapes, boxes) {
-        return false;
-    }
-    places_in_order(shapes, places)
+    shapes_in_order(shapes, boxes) && places_in_order(shapes, places)
 }
 
 // Whether every shape is in order. Left at the first that is not.
-fn shapes_in_order(shapes: &[i32; limits::SHAPES_LENGTH], boxes: &[i32; BOXES]) -> bool
+fn shapes_in_order(shapes: &[i32; limits::SHAPES_LENGTH], boxes: &Boxes) -> bool
     requires { Boxed shapes.now boxes.now }
     ensures { Decides result (ShapesInOrder (store_of shapes.now [])) }
 {
-    let mut shape: usize = 0;
-    while shape < limits::SHAPES {
+    for shape in 0..limits::SHAPES {
         if !shape_in_order(shapes, boxes, shape) {
             return false;
         }
-        shape += 1;
     }
     true
 }
 
 // Whether a shape has no more corners than it may, and none beyond the reach, which its box decides. A shape that is not loaded has none.
-fn shape_in_order(shapes: &[i32; limits::SHAPES_LENGTH], boxes: &[i32; BOXES], shape: usize) -> bool
+fn shape_in_order(shapes: &[i32; limits::SHAPES_LENGTH], boxes: &Boxes, shape: usize) -> bool
     requires { Boxed shapes.now boxes.now × (shape < Limits.shapes) }
     ensures { Decides result (ShapeInOrder (store_of shapes.now []) shape) }
 {
-    let count = index_of(shapes[shape * limits::SHAPE_CELLS], limits::CORNERS + 1);
-    if limits::CORNERS < count {
-        return false;
+    match index_of(shapes[shape * limits::SHAPE_CELLS], limits::CORNERS + 1) {
+        None => false,
+        Some(0) => true,
+        Some(_) => box_near(boxes[shape]),
     }
-    if count == 0 {
-        return true;
-    }
-    box_near(box_in(boxes, shape))
 }
 
 // Whether a box is within the reach of shapes.
 fn box_near(b: ShapeBox) -> bool
     ensures { Decides result (NearBox b) }
 {
-    let on_x = b.x;
-    let on_y = b.y;
-    let on_z = b.z;
-    if !ends_near(on_x) {
-        return false;
-    }
-    if !ends_near(on_y) {
-        return false;
-    }
-    ends_near(on_z)
+    ends_near(b.x) && ends_near(b.y) && ends_near(b.z)
 }
 
 fn ends_near(e: Ends) -> bool
     ensures { Decides result (NearEnds e) }
 {
-    let low = e.low;
-    let high = e.high;
-    if !near(low, limits::SHAPE_REACH) {
-        return false;
-    }
-    near(high, limits::SHAPE_REACH)
+    near(e.low, limits::SHAPE_REACH) && near(e.high, limits::SHAPE_REACH)
 }
 
 // Whether every taken place is in order. Left at the first that is not.
@@ -93,12 +71,10 @@ fn places_in_order(
 ) -> bool
     ensures { Decides result (PlacesInOrder (store_of shapes.now places.now)) }
 {
-    let mut place: usize = 0;
-    while place < limits::PLACES {
+    for place in 0..limits::PLACES {
         if !place_kept(shapes, places, place) {
             return false;
         }
-        place += 1;
     }
     true
 }
@@ -112,10 +88,7 @@ fn place_kept(
     requires { place < Limits.places }
     ensures { Decides result (PlaceKept (store_of shapes.now places.now) place) }
 {
-    if !is_taken(places, place) {
-        return true;
-    }
-    place_in_order(shapes, places, place)
+    !is_taken(places, place) || place_in_order(shapes, places, place)
 }
 
 // Whether a taken place names a loaded shape, and its turn and offset keep their ranges.
@@ -127,14 +100,10 @@ fn place_in_order(
     requires { Taken places.now place }
     ensures { Decides result (PlaceInOrder (store_of shapes.now places.now) place) }
 {
-    let held = index_of(places[limits::PLACE_CELLS * place], limits::SHAPES + 1);
-    if limits::SHAPES < held {
+    let Some(held) = index_of(places[limits::PLACE_CELLS * place], limits::SHAPES + 1) else {
         return false;
-    }
-    if !is_loaded(shapes, held - 1) {
-        return false;
-    }
-    placed_in_order(places, place)
+    };
+    is_loaded(shapes, held - 1) && placed_in_order(places, place)
 }
 
 // Whether a place's turn and offset keep their ranges.
@@ -142,22 +111,15 @@ fn placed_in_order(places: &[i32; limits::PLACES_LENGTH], place: usize) -> bool
     requires { place < Limits.places }
     ensures { Decides result (PlacedInOrder places.now place) }
 {
-    let turn = index_of(places[limits::PLACE_CELLS * place + 1], limits::TURNS);
-    if limits::TURNS <= turn {
-        return false;
-    }
-    part_near(&places[..], limits::PLACE_CELLS * place + 2, 3)
+    index_of(places[limits::PLACE_CELLS * place + 1], limits::TURNS).is_some()
+        && part_near(&places[..], limits::PLACE_CELLS * place + 2, 3)
 }
 
 // Whether a shape is loaded. A number that is no shape's is not.
 pub fn is_loaded(shapes: &[i32; limits::SHAPES_LENGTH], shape: usize) -> bool
     ensures { Decides result (Loaded (store_of shapes.now []) shape) }
 {
-    if shape >= limits::SHAPES {
-        return false;
-    }
-    let count = shapes[shape * limits::SHAPE_CELLS];
-    count != 0
+    shape < limits::SHAPES && shapes[shape * limits::SHAPE_CELLS] != 0
 }
 
 // Whether a part of a list of numbers is within the reach of shapes and offsets.
@@ -169,24 +131,7 @@ fn part_near(numbers: &[i32], start: usize, count: usize) -> bool
     in_reach(&numbers[start..end], limits::SHAPE_REACH)
 }
 
-// The arrays' lengths, of which their types say nothing to a contract.
+// The arrays' lengths, which a proof knows of the arrays that a function is lent, and of those behind a struct by this call.
 pub fn sized_store(shapes: &[i32; limits::SHAPES_LENGTH], places: &[i32; limits::PLACES_LENGTH])
     ensures { Sized (store_of shapes.now places.now) }
-{
-    sized_shapes(shapes);
-    sized_places(places);
-}
-
-fn sized_shapes(shapes: &[i32; limits::SHAPES_LENGTH]) -> usize
-    ensures { length shapes.now ≡ Limits.shapes_length }
-{
-    let all = &shapes[..];
-    all.len()
-}
-
-fn sized_places(places: &[i32; limits::PLACES_LENGTH]) -> usize
-    ensures { length places.now ≡ Limits.places_length }
-{
-    let all = &places[..];
-    all.len()
-}
+{}

@@ -1,7 +1,7 @@
 -- Laws of the cells: a cell is the row of one pair of places only, and rows are in order cell by cell.
 -- With them a test of all cells decides the order of the rows.
-use Rattle.std.specs.Prelude.{ℕ, zero, suc, ◌/◌, ◌%◌, ◌<◌, ◌≡◌, refl, List, [], ◌∷◌, length, get_or, ℤ}
-use Rattle.std.proofs.Common.{sym, ◌∙◌, subst, arith}
+use Rattle.std.specs.Prelude.{ℕ, zero, suc, ◌+◌, ◌-◌, ◌/◌, ◌%◌, ◌<◌, ◌≡◌, refl, List, [], ◌∷◌, length, get_or, take, drop, ℤ}
+use Rattle.std.proofs.Common.{sym, ◌∙◌, subst, get_or-take, get_or-drop, arith}
 use Rattle.limits.specs.Limits
 use Rattle.rows.specs.Rows.{PairOf, cell, row_at, Verdict, RowsInOrder}
 
@@ -26,6 +26,10 @@ low_of low high h = omega arith
 
 pub high_of_lem : (low high : ℕ) → high < Limits.places → cell low high % Limits.places ≡ high
 high_of_lem low high h = omega arith
+
+-- a cell of a part of the rows, as code cuts it out from its start to its end
+pub line_at : (rows : List ℕ) (s n k : ℕ) → k < n → get_or (take (s + n - s) (drop s rows)) k 0 ≡ get_or rows (s + k) 0
+line_at rows s n k h = let e : s + n - s ≡ n = omega arith in rw (e, get_or-take, get_or-drop)
 
 -- what one cell may hold
 pub record CellInOrder (places : List ℤ) (low high v : ℕ) : Type 0 where

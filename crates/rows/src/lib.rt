@@ -27,15 +27,12 @@ pub fn start_rows(rows: &mut [u8; limits::ROWS], book: &mut [u32; limits::BOOK])
 pub fn rows_in_order(places: &[i32; limits::PLACES_LENGTH], rows: &[u8; limits::ROWS]) -> bool
     ensures { Decides result (RowsInOrder places.now rows.now) }
 {
-    sized_rows(rows);
     let mut mask = taken_mask(places);
-    let mut wrong: u8 = 0;
-    let mut low: usize = 0;
-    while low < limits::PLACES {
+    let mut wrong = 0;
+    for low in 0..limits::PLACES {
         let own = mask[low];
         mask[low] = limits::NO_ROW;
-        wrong = wrong | wrong_in_line(rows, &mask, low, own);
-        low += 1;
+        wrong |= wrong_in_line(rows, &mask, low, own);
     }
     wrong == 0
 }
@@ -45,15 +42,12 @@ fn wrong_in_line(rows: &[u8; limits::ROWS], mask: &[u8; limits::PLACES], low: us
     requires { (low < Limits.places) × MaskByte own × ((i : ℕ) → i < Limits.places → MaskByte (get_or mask.now i 0)) }
     ensures { Decides (eqb result 0) (LineMasked mask.now own low rows.now Limits.places) }
 {
-    let cells = &rows[..];
-    let bytes = &mask[..];
-    let mut wrong: u8 = 0;
-    let mut high: usize = 0;
-    while high < limits::PLACES {
-        let v = cells[low * limits::PLACES + high];
-        let m = bytes[high] | own;
-        wrong = wrong | ((v ^ m) & (m | BEYOND_VERDICTS));
-        high += 1;
+    let start = low * limits::PLACES;
+    let line = &rows[start..start + limits::PLACES];
+    let mut wrong = 0;
+    for (high, &v) in line.iter().enumerate() {
+        let m = mask[high] | own;
+        wrong |= (v ^ m) & (m | BEYOND_VERDICTS);
     }
     wrong
 }
@@ -62,42 +56,11 @@ fn wrong_in_line(rows: &[u8; limits::ROWS], mask: &[u8; limits::PLACES], low: us
 fn taken_mask(places: &[i32; limits::PLACES_LENGTH]) -> [u8; limits::PLACES]
     ensures { MaskFrom places.now 0 result }
 {
-    let mut mask = no_mask();
-    let mut place: usize = 0;
-    while place < limits::PLACES {
-        let m = mask_of(places, place);
-        mask[place] = m;
-        place += 1;
+    let mut mask = [limits::NO_ROW; limits::PLACES];
+    for place in 0..limits::PLACES {
+        if is_taken(places, place) {
+            mask[place] = 0;
+        }
     }
     mask
-}
-
-fn mask_of(places: &[i32; limits::PLACES_LENGTH], place: usize) -> u8
-    requires { place < Limits.places }
-    ensures { MaskOf places.now place result }
-{
-    if is_taken(places, place) {
-        return 0;
-    }
-    limits::NO_ROW
-}
-
-fn no_mask() -> [u8; limits::PLACES]
-    ensures { length result ≡ Limits.places }
-{
-    [limits::NO_ROW; limits::PLACES]
-}
-
-pub fn wide(v: u8) -> usize
-    ensures { result ≡ v }
-{
-    v as usize
-}
-
-// The array's length, of which its type says nothing to a contract.
-pub fn sized_rows(rows: &[u8; limits::ROWS]) -> usize
-    ensures { (result ≡ length rows.now) × (length rows.now ≡ Limits.rows) }
-{
-    let all = &rows[..];
-    all.len()
 }

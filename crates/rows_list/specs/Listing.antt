@@ -1,18 +1,20 @@
 -- Laws of the listing: one row more, the stores that write it, and what each way out has listed.
 -- Two listings that are allowed for the same rows and room are equal (`lists_once`).
-use Rattle.std.specs.Prelude.{ℕ, zero, suc, ◌+◌, ◌*◌, ◌/◌, ◌%◌, ◌≤◌, ◌<◌, ◌≡◌, refl, List, [], ◌∷◌, ◌++◌, Bool, true, false, ℤ, length, get_or, set, take, drop}
+use Rattle.std.specs.Prelude.{ℕ, zero, suc, ◌+◌, ◌*◌, ◌/◌, ◌%◌, ◌≤◌, ◌<◌, ◌≡◌, refl, List, [], ◌∷◌, ◌++◌, Bool, true, false, ℤ, length, get_or, set, take, drop, Result, Ok, Err}
 use Rattle.std.proofs.Common.{sym, ap, ap₂, ◌∙◌, append_assoc, append-nil, inl, inr, zero-add, add-one, arith, length-append, drop-drop}
 use Rattle.std.proofs.lemmas.List.Edits.{sets, sets-eq}
 use Rattle.std.proofs.Math.Seq.{take-append_seam, drop-append-add}
 use Rattle.limits.specs.Limits
 use Rattle.limits.proofs.LowestLaws.{lowest_once}
+use Rattle.limits.proofs.RefusalLaws.{number_once}
+use Rattle.limits.specs.Refusals
+use Rattle.limits.specs.declared.Refusal.{Refusal}
+use Rattle.limits.specs.declared.Refusal.TheVariants.{ShortRoom}
 use Rattle.rows.specs.Rows.{PairOf, RowsInOrder, cell}
 use Rattle.ints.specs.Counts.{one_if}
 use Rattle.rows_list.specs.Contacts.{contact, only_if, listed, contacts_from, contacts, refusals, Lists}
 use Rattle.rows.specs.Cells.{low_of, high_of_lem, one_cell}
 use Rattle.rows.proofs.Handling.{by_pair}
-use Rattle.rows_list.specs.declared.Listed.{Listed}
-use Rattle.rows_list.specs.declared.Listed.TheVariants.{Rows, Refused}
 
 -- a row is listed as three bytes or none
 three_if : (b : Bool) (x y z : ℕ) → length (only_if b (x ∷ y ∷ z ∷ [])) ≡ 3 * one_if b
@@ -102,7 +104,7 @@ pub listed_more : (rows room : List ℕ) (k : ℕ) → k < length rows → lengt
 listed_more rows room k h fits = rw (contacts_more rows k h) (write_more (contacts (take k rows)) (listed k (get_or rows k 0)) room (omega (arith, contacts_fit rows k h)))
 
 -- the two ways out
-pub lists_short : (rows room : List ℕ) (n : ℕ) → length (contacts rows) ≡ 3 * n → length room < 3 * n → Lists rows room room (Refused Limits.short_room)
+pub lists_short : (rows room : List ℕ) (n : ℕ) → length (contacts rows) ≡ 3 * n → length room < 3 * n → Lists rows room room (Err ShortRoom)
 lists_short rows room n e h = record {
   refusal = inl (omega arith, refl);
   written = λ z. absurd (omega arith);
@@ -113,7 +115,7 @@ lists_short rows room n e h = record {
 }
 
 pub lists_all : (rows room after : List ℕ) (n : ℕ) → length (contacts rows) ≡ 3 * n → 3 * n ≤ length room
-    → after ≡ contacts rows ++ drop (length (contacts rows)) room → Lists rows room after (Rows n)
+    → after ≡ contacts rows ++ drop (length (contacts rows)) room → Lists rows room after (Ok n)
 lists_all rows room after n e h w = record {
   refusal = inr (λ s. omega arith, refl);
   written = λ z. w;
@@ -124,15 +126,15 @@ lists_all rows room after n e h w = record {
 }
 
 -- one listing is right
-pub lists_once : {rows room a b : List ℕ} (q r : Listed) → Lists rows room a q → Lists rows room b r → (a ≡ b) × (q ≡ r)
-lists_once {rows} {room} (Rows m) (Rows n) p q =
-    (p.written refl ∙ sym (q.written refl), ap Rows (let a = p.count refl in let b = q.count refl in omega arith))
-lists_once {rows} {room} (Rows m) (Refused n) p q =
-    absurd (omega (arith, q.named, lowest_once (refusals rows room) {m = 0} {n = n} p.refusal q.refusal))
-lists_once {rows} {room} (Refused m) (Rows n) p q =
-    absurd (omega (arith, p.named, lowest_once (refusals rows room) {m = m} {n = 0} p.refusal q.refusal))
-lists_once {rows} {room} (Refused m) (Refused n) p q =
-    (p.kept p.named ∙ sym (q.kept q.named), ap Refused (lowest_once (refusals rows room) {m = m} {n = n} p.refusal q.refusal))
+pub lists_once : {rows room a b : List ℕ} (q r : Result ℕ Refusal) → Lists rows room a q → Lists rows room b r → (a ≡ b) × (q ≡ r)
+lists_once {rows} {room} (Ok m) (Ok n) p q =
+    (p.written refl ∙ sym (q.written refl), ap Ok (let a = p.count refl in let b = q.count refl in omega arith))
+lists_once {rows} {room} (Ok m) (Err n) p q =
+    absurd (omega (arith, q.named, lowest_once (refusals rows room) {m = 0} {n = Refusals.number_of n} p.refusal q.refusal))
+lists_once {rows} {room} (Err m) (Ok n) p q =
+    absurd (omega (arith, p.named, lowest_once (refusals rows room) {m = Refusals.number_of m} {n = 0} p.refusal q.refusal))
+lists_once {rows} {room} (Err m) (Err n) p q =
+    (p.kept p.named ∙ sym (q.kept q.named), ap Err (number_once m n (lowest_once (refusals rows room) {m = Refusals.number_of m} {n = Refusals.number_of n} p.refusal q.refusal)))
 
 -- where rows are in order, a row that is listed is a pair's, the lower place first
 pub contact_pair : {places : List ℤ} {rows : List ℕ} → RowsInOrder places rows → (k : ℕ) → k < Limits.rows → (one_if (contact (get_or rows k 0)) ≡ 0 → ⊥)

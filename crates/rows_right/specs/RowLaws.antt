@@ -7,8 +7,7 @@ use Rattle.space.proofs.ExclusionLaws.{verdict_once}
 use Rattle.space.specs.Lists.{Placed}
 use Rattle.rows.specs.Rows.{Verdict, RowPut, Handled}
 use Rattle.rows.proofs.Handling.{handled_skip, handled_put}
-use Rattle.verdict.specs.Answers.{Carries}
-use Rattle.verdict.specs.declared.Answer.{Answer}
+use Rattle.verdict.specs.Answers.{Answer, Carries}
 use Rattle.pieces.specs.Pieces.{Store, piece_at, count_at, Taken}
 use Rattle.pieces.specs.Store.{piece_placed, list_length_lem, SameAt, same_piece, same_low, same_high}
 use Rattle.pieces.specs.Boxes.{Apart, PlacedPiece, Numbers}
@@ -65,8 +64,8 @@ pub row_verdict : (g : ℕ) (d : Store) (i j : ℕ) {v : ℕ} → (Apart g d i j
 row_verdict g d i j f h = inr (f, h)
 
 -- an answer about two lists is one about the pieces that they are
-pub carries_at : {g : ℕ} {A B P Q : List ℤ} {r : Answer} → A ≡ P → B ≡ Q → (r.number ≡ 0) × Carries g A B r → (r.number ≡ 0) × Carries g P Q r
-carries_at {g} {A} {B} {P} {Q} {r} ea eb h = (h.0, subst (λ (X : List ℤ). Carries g X Q r) ea (subst (λ (X : List ℤ). Carries g A X r) eb h.1))
+pub carries_at : {g : ℕ} {A B P Q : List ℤ} {r : Answer} → A ≡ P → B ≡ Q → Carries g A B r → Carries g P Q r
+carries_at {g} {A} {B} {P} {Q} {r} ea eb h = subst (λ (X : List ℤ). Carries g X Q r) ea (subst (λ (X : List ℤ). Carries g A X r) eb h)
 
 -- a part of an array that begins it
 pub front : {d : Store} {p n : ℕ} {a : List ℤ} → Numbers d p a → n ≡ count_at d p → take (3 * n) a ≡ piece_at d p

@@ -5,9 +5,6 @@ ghost use Rattle.limits.specs.Limits;
 ghost use Rattle.rows.specs.Rows.{Verdict, Cleared, RowPut};
 ghost use Rattle.rows_tally.specs.Tallies.{BookInOrder, BookFollows, Counted};
 
-use crate::sized_book;
-use rows::{sized_rows, wide};
-
 // The row of a pair set.
 pub fn put_row(
     rows: &mut [u8; limits::ROWS],
@@ -29,11 +26,9 @@ pub fn clear_place(rows: &mut [u8; limits::ROWS], book: &mut [u32; limits::BOOK]
     ensures rows { Cleared place rows.old rows.new }
     ensures book { BookFollows rows.new book.old book.new }
 {
-    let mut other: usize = 0;
-    while other < limits::PLACES {
+    for other in 0..limits::PLACES {
         set_cell(rows, book, place * limits::PLACES + other, limits::NO_ROW);
         set_cell(rows, book, other * limits::PLACES + place, limits::NO_ROW);
-        other += 1;
     }
 }
 
@@ -43,7 +38,6 @@ fn set_cell(rows: &mut [u8; limits::ROWS], book: &mut [u32; limits::BOOK], k: us
     ensures rows { (length rows.old ≡ Limits.rows) × (rows.new ≡ set rows.old k v) }
     ensures book { BookFollows rows.new book.old book.new }
 {
-    sized_rows(rows);
     let old = rows[k];
     take_out(book, old);
     put_in(book, v);
@@ -51,12 +45,12 @@ fn set_cell(rows: &mut [u8; limits::ROWS], book: &mut [u32; limits::BOOK], k: us
 }
 
 // One row less in the book.
+// Stays: it and put_in differ in − and +, and one function of a signed step would add a cast and a bound to both.
 fn take_out(book: &mut [u32; limits::BOOK], v: u8)
     requires { Verdict v → 0 < get_or book.old v 0 }
     ensures { Counted v book.new book.old }
 {
-    sized_book(book);
-    let verdict = wide(v);
+    let verdict = usize::from(v);
     if verdict < limits::TALLIES {
         book[verdict] -= 1;
     }
@@ -67,8 +61,7 @@ fn put_in(book: &mut [u32; limits::BOOK], v: u8)
     requires { Verdict v → get_or book.old v 0 < Limits.rows }
     ensures { Counted v book.old book.new }
 {
-    sized_book(book);
-    let verdict = wide(v);
+    let verdict = usize::from(v);
     if verdict < limits::TALLIES {
         book[verdict] += 1;
     }

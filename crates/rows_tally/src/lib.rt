@@ -10,7 +10,6 @@ ghost use Rattle.rows.specs.Rows.{cell, RowsInOrder};
 ghost use Rattle.rows_tally.specs.Tallies.{BookInOrder, gap_in, gap_put, one_if_taken, taken_places, pairs_of};
 
 use pieces::taking::is_taken;
-use rows::sized_rows;
 
 mod changes;
 
@@ -20,7 +19,6 @@ pub use changes::{clear_place, put_row};
 pub fn gap_of(book: &[u32; limits::BOOK]) -> u32
     ensures { result ≡ gap_in book.now }
 {
-    sized_book(book);
     book[limits::GAP_CELL]
 }
 
@@ -28,7 +26,6 @@ pub fn gap_of(book: &[u32; limits::BOOK]) -> u32
 pub fn put_gap(book: &mut [u32; limits::BOOK], gap: u32)
     ensures { book.new ≡ gap_put book.old gap }
 {
-    sized_book(book);
     book[limits::GAP_CELL] = gap;
 }
 
@@ -45,26 +42,9 @@ pub fn book_in_order(
     if (limits::GAP_MOST as u32) < gap {
         return false;
     }
-    let mut right = [0u32; limits::BOOK];
-    recount(rows, pairs_of(places), &mut right);
+    let mut right = recounted(rows, pairs_of(places));
     put_gap(&mut right, gap);
-    same_book(book, &right)
-}
-
-// Whether two books are equal.
-fn same_book(a: &[u32; limits::BOOK], b: &[u32; limits::BOOK]) -> bool
-    ensures { Decides result (a.now ≡ b.now) }
-{
-    sized_book(a);
-    sized_book(b);
-    let mut k: usize = 0;
-    while k < limits::BOOK {
-        if a[k] != b[k] {
-            return false;
-        }
-        k += 1;
-    }
-    true
+    *book == right
 }
 
 // How many pairs the taken places make.
@@ -72,45 +52,32 @@ fn pairs_of(places: &[i32; limits::PLACES_LENGTH]) -> u32
     ensures { result ≡ pairs_of places.now }
 {
     let n = taken_places(places);
-    if n == 0 {
-        return 0;
-    }
-    n * (n - 1) / 2
+    n * n.saturating_sub(1) / 2
 }
 
 fn taken_places(places: &[i32; limits::PLACES_LENGTH]) -> u32
     ensures { (result ≡ taken_places places.now) × (result ≤ Limits.places) }
 {
-    let mut n: u32 = 0;
-    let mut place: usize = 0;
-    while place < limits::PLACES {
-        n += one_if_taken(places, place);
-        place += 1;
+    let mut n = 0;
+    for place in 0..limits::PLACES {
+        n += u32::from(is_taken(places, place));
     }
     n
 }
 
-fn one_if_taken(places: &[i32; limits::PLACES_LENGTH], place: usize) -> u32
-    requires { place < Limits.places }
-    ensures { result ≡ one_if_taken places.now place }
-{
-    if is_taken(places, place) { 1 } else { 0 }
-}
-
-// The tallies counted afresh, and no gap, whatever the book held; so many rows hold a verdict.
-fn recount(rows: &[u8; limits::ROWS], many: u32, book: &mut [u32; limits::BOOK])
+// A book of the tallies counted afresh, and no gap; so many rows hold a verdict.
+fn recounted(rows: &[u8; limits::ROWS], many: u32) -> [u32; limits::BOOK]
     requires { many ≡ sum_to Limits.tallies (λ v. count_of v rows.now) }
-    ensures { BookInOrder rows.now book.new }
+    ensures { BookInOrder rows.now result }
 {
-    *book = [0u32; limits::BOOK];
+    let mut book = [0; limits::BOOK];
     let mut left = many;
-    let mut verdict: usize = 0;
-    while verdict < limits::TALLIES {
+    for verdict in 0..limits::TALLIES {
         let n = tally_left(rows, verdict as u8, left);
         book[verdict] = n;
         left -= n;
-        verdict += 1;
     }
+    book
 }
 
 // How many rows hold a verdict, where so many are left to be counted: no line is gone through for none.
@@ -119,21 +86,19 @@ fn tally_left(rows: &[u8; limits::ROWS], verdict: u8, left: u32) -> u32
     ensures { result ≡ count_of verdict rows.now }
 {
     if left == 0 {
-        return 0;
+        0
+    } else {
+        tally_of(rows, verdict)
     }
-    tally_of(rows, verdict)
 }
 
 // How many rows hold a verdict, added up line by line.
 fn tally_of(rows: &[u8; limits::ROWS], verdict: u8) -> u32
     ensures { result ≡ count_of verdict rows.now }
 {
-    sized_rows(rows);
-    let mut n: u32 = 0;
-    let mut low: usize = 0;
-    while low < limits::PLACES {
-        n += tally_in_line(rows, low, verdict) as u32;
-        low += 1;
+    let mut n = 0;
+    for low in 0..limits::PLACES {
+        n += u32::from(tally_in_line(rows, low, verdict));
     }
     n
 }
@@ -143,25 +108,10 @@ fn tally_in_line(rows: &[u8; limits::ROWS], low: usize, verdict: u8) -> u8
     requires { low < Limits.places }
     ensures { count_of verdict (take (cell low Limits.places) rows.now) ≡ count_of verdict (take (cell low 0) rows.now) + result }
 {
-    sized_rows(rows);
-    let mut n: u8 = 0;
-    let mut high: usize = 0;
-    while high < limits::PLACES {
-        n += one_if_same(rows[low * limits::PLACES + high], verdict);
-        high += 1;
+    let start = low * limits::PLACES;
+    let mut n = 0;
+    for &v in &rows[start..start + limits::PLACES] {
+        n += u8::from(v == verdict);
     }
     n
-}
-
-fn one_if_same(v: u8, w: u8) -> u8
-    ensures { result ≡ one_if (eqb v w) }
-{
-    if v == w { 1 } else { 0 }
-}
-
-fn sized_book(book: &[u32; limits::BOOK]) -> usize
-    ensures { length book.now ≡ Limits.book }
-{
-    let all = &book[..];
-    all.len()
 }

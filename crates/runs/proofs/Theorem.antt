@@ -1,10 +1,10 @@
 -- THE THEOREM over runs of commands, and what one command changes: the laws of what Stands.antt says.
 -- Every command keeps what stands; so it stands on every desk that was reached.
-use Rattle.std.specs.Prelude.{◌≡◌, refl, List, [], ◌∷◌, true, ℕ, zero, suc, ◌-◌, ◌≤◌, ◌<◌, T, ℤ, pos, nat_abs, ◌+ℤ◌, ◌-ℤ◌, length}
+use Rattle.std.specs.Prelude.{◌≡◌, refl, List, [], ◌∷◌, true, ℕ, zero, suc, ◌-◌, ◌≤◌, ◌<◌, T, ℤ, pos, nat_abs, ◌+ℤ◌, ◌-ℤ◌, length, Ok, Err}
 use Rattle.std.proofs.Common.{sym, ap, ◌∙◌, subst, inl, inr, arith}
 use Rattle.ints.proofs.Quote.{sides, by_ring}
 use Rattle.limits.specs.Limits
-use Rattle.limits.specs.Lowest.{Refusal, Lowest}
+use Rattle.limits.specs.Lowest.{Rule, Lowest}
 use Rattle.marks.specs.Marks.{Agree, axis_of, changed_marks}
 use Rattle.marks.proofs.Buffer.{one_buffer}
 use Rattle.pieces.specs.declared.placement.Placement.{Placement}
@@ -20,11 +20,9 @@ use Rattle.desk_state.specs.Desk.{Desk, gap_of, InOrder, loaded_at, gap_at}
 use Rattle.desk_put.specs.Handled.{PutDown, Emptied}
 use Rattle.desk_put.specs.PutLaws.{put_shape_lem, put_names}
 use Rattle.desk_load.specs.LoadLaws.{in_place_agrees}
-use Rattle.desk.specs.Commands.{number_of, outcome_count, Commanded, load_refusals, place_refusals, move_refusals, moved_to, remove_refusals, gap_refusals, Does}
+use Rattle.desk.specs.Commands.{Outcome, number_of, outcome_count, Commanded, load_refusals, place_refusals, move_refusals, moved_to, remove_refusals, gap_refusals, Does}
 use Rattle.desk.specs.declared.Command.{Command}
 use Rattle.desk.specs.declared.Command.TheVariants.{Start, Load, Place, Move, Remove, Gap}
-use Rattle.desk.specs.declared.Outcome.{Outcome}
-use Rattle.desk.specs.declared.Outcome.TheVariants.{Done, Refused}
 use Rattle.runs.specs.Log.{Entry, ◌with◌, Spot, free, held, is_held, Plan, empty_plan, with_at, turned, plan_by, plan_after, plan_of}
 use Rattle.runs.specs.Afresh.{corners_in, piece_of, low_of, high_of, RowOf, PairIn, Afresh}
 use Rattle.runs.proofs.AfreshLaws.{afresh_once}
@@ -36,12 +34,17 @@ use Rattle.runs.specs.Standing.{at_each, Standing, None, none_applies, numbered_
 use Rattle.runs.specs.Stands.{Stands, SameStanding, Changes}
 
 -- ---- every command keeps what stands
+-- what is refused is not logged
+pub logged_none : (n : ℕ) (e : Entry) (log : List Entry) → 0 < n → logged n e log ≡ log
+logged_none zero e log h = absurd (omega arith)
+logged_none (suc n) e log h = refl
+
 -- refused: the desk and the log are as they were. Accepted: the command's own law
-commanded : {l : List Refusal} {Accepted : ℕ → Type 0} {d after : Desk} (log : List Entry) (e : Entry) (r : Outcome) → Commanded l Accepted d after r → Standing d (plan_of log)
+commanded : {l : List Rule} {Accepted : ℕ → Type 0} {d after : Desk} (log : List Entry) (e : Entry) (r : Outcome) → Commanded l Accepted d after r → Standing d (plan_of log)
     → (Lowest l 0 → Accepted (outcome_count r) → Standing after (plan_after e (plan_of log))) → Standing after (plan_of (logged (number_of r) e log))
-commanded log e (Done n) k old f = f k.refusal (k.done refl)
-commanded log e (Refused zero) k old f = absurd (omega (arith, k.named))
-commanded log e (Refused (suc n)) k old f = subst (λ (x : Desk). Standing x (plan_of log)) (sym (k.kept (omega arith))) old
+commanded log e (Ok n) k old f = f k.refusal (k.done refl)
+commanded {after = after} log e (Err r) k old f =
+    subst (λ (l : List Entry). Standing after (plan_of l)) (sym (logged_none (number_of (Err r)) e log k.named)) (subst (λ (x : Desk). Standing x (plan_of log)) (sym (k.kept k.named)) old)
 
 -- one less and one more: a moved piece keeps its shape
 pub less_more : (z : ℤ) → (z -ℤ pos 1) +ℤ pos 1 ≡ z
@@ -266,10 +269,10 @@ pub accepted_changes : {before after : Desk} (e : Entry) (r : Outcome) → Does 
 accepted_changes e = changes_by e.command e.numbers
 
 -- refused: "desk, marks and room stay as they were", and the count is zero
-module _ {l : List Refusal} {Accepted : ℕ → Type 0} {before after : Desk} where
+module _ {l : List Rule} {Accepted : ℕ → Type 0} {before after : Desk} where
   refused : (r : Outcome) → Commanded l Accepted before after r → 0 < number_of r → (after ≡ before) × (outcome_count r ≡ 0)
-  refused (Done n) k h = absurd (omega arith)
-  refused (Refused n) k h = (k.kept h, refl)
+  refused (Ok n) k h = absurd (omega arith)
+  refused (Err r) k h = (k.kept h, refl)
 
 refused_by : {before after : Desk} (c : Command) (numbers : List ℤ) (r : Outcome) → Does c numbers before after r → 0 < number_of r → (after ≡ before) × (outcome_count r ≡ 0)
 refused_by Start numbers r k h = refused r k h

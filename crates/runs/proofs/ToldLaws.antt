@@ -1,18 +1,16 @@
 -- The laws of a run: its desk and its log are the only ones, a desk that is reached before is reached after, and it stands.
 -- Then how a run is told code by code.
-use Rattle.std.specs.Prelude.{◌≡◌, refl, List, [], ◌∷◌, ◌++◌, ℕ, zero, suc, ◌+◌, ◌≤◌, ℤ, length}
+use Rattle.std.specs.Prelude.{◌≡◌, refl, List, [], ◌∷◌, ◌++◌, ℕ, zero, suc, ◌+◌, ◌≤◌, ℤ, length, Ok, Err}
 use Rattle.std.proofs.Common.{sym, ap, ◌∙◌, subst, arith, length-append}
 use Rattle.desk_state.specs.Desk.{Desk}
-use Rattle.desk.specs.Commands.{number_of, Named, Does}
+use Rattle.desk.specs.Commands.{Outcome, number_of, Named, Does}
 use Rattle.desk.specs.CommandLaws.{does_once}
 use Rattle.desk.specs.declared.Command.{Command}
 use Rattle.desk.specs.declared.Command.TheVariants.{Start, Load, Place, Move, Remove, Gap}
-use Rattle.desk.specs.declared.Outcome.{Outcome}
-use Rattle.desk.specs.declared.Outcome.TheVariants.{Done, Refused}
 use Rattle.runs.specs.Log.{Entry, ◌with◌, empty_plan, plan_of}
 use Rattle.runs.specs.Reached.{logged, Reached, told}
 use Rattle.runs.specs.Standing.{Standing, fresh_standing}
-use Rattle.runs.proofs.Theorem.{step, stands_of, reached_stands}
+use Rattle.runs.proofs.Theorem.{logged_none, step, stands_of, reached_stands}
 use Rattle.runs.specs.Encoded.{number_in, commands_of, commands_in, code_at, numbers_at, told_to, told_by}
 use Rattle.runs.specs.EncodedLaws.{told_next}
 use Rattle.runs.specs.Told.{Ran, none, more, Told, accepted_of, Starts, Runs}
@@ -52,9 +50,8 @@ does_named d after (Remove place) numbers r h = h.named
 does_named d after (Gap gap) numbers r h = h.named
 
 accepted_one : (e : Entry) (r : Outcome) → Named r → accepted_of r ≡ length (logged (number_of r) e [])
-accepted_one e (Done n) h = refl
-accepted_one e (Refused zero) h = absurd (omega arith)
-accepted_one e (Refused (suc n)) h = refl
+accepted_one e (Ok n) h = refl
+accepted_one e (Err r) h = sym (ap length (logged_none (number_of (Err r)) e [] h))
 
 pub told_one : {d after : Desk} {n : ℕ} (e : Entry) (r : Outcome) → n ≡ accepted_of r → Does e.command e.numbers d after r → Told (e ∷ []) d after n
 told_one {d} {after} e r a h = record { log = logged (number_of r) e []; ran = more e r none h; accepted = a ∙ accepted_one e r (does_named d after e.command e.numbers r h) }
@@ -96,14 +93,15 @@ told_code {e = e} {f} {n = n} codes numbers i {code} {part} ec en h k =
 -- ---- a start that was accepted on the way
 stands_on : {d after : Desk} (log : List Entry) (c : Command) (numbers : List ℤ) (r : Outcome) → Does c numbers d after r → (Starts log → Standing d (plan_of log))
     → Starts (logged (number_of r) (c with numbers) log) → Standing after (plan_of (logged (number_of r) (c with numbers) log))
-stands_on {d} {after} log c numbers (Refused zero) k old h = absurd (omega (arith, does_named d after c numbers (Refused zero) k))
-stands_on log c numbers (Refused (suc n)) k old h = step log (c with numbers) (Refused (suc n)) (old h) k
-stands_on log Start numbers (Done n) k old h = subst (λ (x : Desk). Standing x empty_plan) (sym (k.done refl).0) fresh_standing
-stands_on log (Load shape) numbers (Done n) k old h = step log (Load shape with numbers) (Done n) (old h) k
-stands_on log (Place place q) numbers (Done n) k old h = step log (Place place q with numbers) (Done n) (old h) k
-stands_on log (Move place turn o) numbers (Done n) k old h = step log (Move place turn o with numbers) (Done n) (old h) k
-stands_on log (Remove place) numbers (Done n) k old h = step log (Remove place with numbers) (Done n) (old h) k
-stands_on log (Gap gap) numbers (Done n) k old h = step log (Gap gap with numbers) (Done n) (old h) k
+stands_on {d} {after} log c numbers (Err r) k old h =
+    let none = logged_none (number_of (Err r)) (c with numbers) log (does_named d after c numbers (Err r) k) in
+    step log (c with numbers) (Err r) (old (subst Starts none h)) k
+stands_on log Start numbers (Ok n) k old h = subst (λ (x : Desk). Standing x empty_plan) (sym (k.done refl).0) fresh_standing
+stands_on log (Load shape) numbers (Ok n) k old h = step log (Load shape with numbers) (Ok n) (old h) k
+stands_on log (Place place q) numbers (Ok n) k old h = step log (Place place q with numbers) (Ok n) (old h) k
+stands_on log (Move place turn o) numbers (Ok n) k old h = step log (Move place turn o with numbers) (Ok n) (old h) k
+stands_on log (Remove place) numbers (Ok n) k old h = step log (Remove place with numbers) (Ok n) (old h) k
+stands_on log (Gap gap) numbers (Ok n) k old h = step log (Gap gap with numbers) (Ok n) (old h) k
 
 ran_started : {d after : Desk} {es log : List Entry} → Ran d es after log → Starts log → Standing after (plan_of log)
 ran_started none h = absurd h

@@ -1,6 +1,6 @@
 -- Laws of a run as numbers: what a code takes of the corner numbers, and how one code follows another.
 -- They are told of parts that are lent on, as a loop over the codes has them.
-use Rattle.std.specs.Prelude.{◌≡◌, refl, ◌≢◌, List, [], ◌++◌, ℤ, pos, negsuc, length, take, drop}
+use Rattle.std.specs.Prelude.{◌≡◌, refl, ◌≢◌, List, [], ◌++◌, ℤ, pos, negsuc, Some, None, length, take, drop}
 use Rattle.std.proofs.Math.Path.{sym, ap₂}
 use Rattle.std.proofs.Common.{ap, ◌∙◌, arith, add-one, length-append, length-take, length-drop}
 use Prim.Native.Nat.{ℕ, zero, suc, ◌+◌, ◌-◌, ◌*◌, ◌/◌, ◌≤◌, ◌<◌}
@@ -20,13 +20,13 @@ passed_over (pos (suc (suc (suc (suc (suc (suc n))))))) p s t x y z numbers a b 
 passed_over (negsuc n) p s t x y z numbers a b c d e f = refl
 
 -- ---- the code's count as an index
-pub took_some : (z : ℤ) (left : ℕ) {i : ℕ} → Indexed left z i → i < left → i ≡ took z left
-took_some (pos n) left x h = let e = (x.yes h).1 in omega arith
-took_some (negsuc n) left x h = absurd (let e = (x.yes h).0.natural in let k : ◌≡◌ {A = ℕ} 0 1 = cc in omega arith)
+pub took_some : (z : ℤ) (left : ℕ) {i : ℕ} → Indexed left z (Some i) → i ≡ took z left
+took_some (pos n) left x = let h = x.0.below in omega (arith, x.1)
+took_some (negsuc n) left x = absurd (let e = x.0.natural in let k : ◌≡◌ {A = ℕ} 0 1 = cc in omega arith)
 
-pub took_rest : (z : ℤ) (left : ℕ) {i : ℕ} → Indexed left z i → left ≤ i → left ≡ took z left
-took_rest (pos n) left x h = by_less n left (λ l. absurd (x.no h (record { natural = refl; below = l }))) (λ l. omega arith)
-took_rest (negsuc n) left x h = refl
+pub took_rest : (z : ℤ) (left : ℕ) → Indexed left z None → left ≡ took z left
+took_rest (pos n) left x = by_less n left (λ l. absurd (x (record { natural = refl; below = l }))) (λ l. omega arith)
+took_rest (negsuc n) left x = refl
 
 -- ---- what the first codes take and tell
 took_most : (z : ℤ) (left : ℕ) → took z left ≤ left

@@ -5,8 +5,7 @@ use Rattle.limits.specs.Limits
 use Rattle.pieces.specs.declared.placement.Placement.{Placement}
 use Rattle.pieces.specs.Pieces.{Store, Taken, corners_of, shape_value, shape_at, turn_at, offset_at}
 use Rattle.desk_state.specs.Desk.{Desk}
-use Rattle.desk.specs.Commands.{number_of, Started, Does}
-use Rattle.desk.specs.declared.Outcome.{Outcome}
+use Rattle.desk.specs.Commands.{Outcome, number_of, Started, Does}
 use Rattle.runs.specs.Log.{Entry, Spot, free, held, Plan}
 
 -- "0 is done": an accepted command stands in the log, a refused one does not

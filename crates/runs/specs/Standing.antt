@@ -5,7 +5,7 @@ use Rattle.std.proofs.Common.{sym, ap, ◌∙◌, subst, inl, inr, arith, eq-eqb
 use Rattle.std.proofs.lemmas.List.{length-replicate}
 use Rattle.std.proofs.Math.Seq.{length-sets}
 use Rattle.limits.specs.Limits
-use Rattle.limits.specs.Lowest.{Refusal, Lowest, Positive}
+use Rattle.limits.specs.Lowest.{Rule, Lowest, Positive}
 use Rattle.limits.specs.Numbered.{Numbered}
 use Rattle.space.specs.Lists.{LengthFits}
 use Rattle.pieces.specs.declared.placement.Placement.{Placement}
@@ -27,11 +27,11 @@ use Rattle.runs.specs.Log.{Spot, free, held, Plan, empty_plan, with_at}
 use Rattle.runs.specs.Reached.{ShapeIs, PlaceIs, HoldsPlan}
 
 -- ---- what an accepted command has been asked: none of its refusals applies
-abbrev pub None : List Refusal → Type 0
+abbrev pub None : List Rule → Type 0
 None [] = Unit {0}
 None (r ∷ rest) = (r.applies → ⊥) × None rest
 
-pub none_applies : (l : List Refusal) → Positive l → Lowest l 0 → None l
+pub none_applies : (l : List Rule) → Positive l → Lowest l 0 → None l
 none_applies [] p h = tt
 none_applies (r ∷ l) p (inl h) = absurd (omega (arith, p.0, h.1))
 none_applies (r ∷ l) p (inr h) = (h.0, none_applies l p.1 h.1)

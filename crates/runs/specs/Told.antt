@@ -1,12 +1,10 @@
 -- WHAT A RUN DOES: commands told one after the other, each by its own record, and the log of those that were accepted.
 -- The laws stand in ToldLaws.antt: the desk and the log at the end are the only ones, and a desk that is reached before is reached after.
-use Rattle.std.specs.Prelude.{◌≡◌, List, [], ◌∷◌, ◌++◌, ℕ, ℤ, length}
+use Rattle.std.specs.Prelude.{◌≡◌, List, [], ◌∷◌, ◌++◌, ℕ, ℤ, length, Ok, Err}
 use Rattle.desk_state.specs.Desk.{Desk}
-use Rattle.desk.specs.Commands.{number_of, Does}
+use Rattle.desk.specs.Commands.{Outcome, number_of, Does}
 use Rattle.desk.specs.declared.Command.{Command}
 use Rattle.desk.specs.declared.Command.TheVariants.{Start, Load, Place, Move, Remove, Gap}
-use Rattle.desk.specs.declared.Outcome.{Outcome}
-use Rattle.desk.specs.declared.Outcome.TheVariants.{Done, Refused}
 use Rattle.runs.specs.Log.{Entry}
 use Rattle.runs.specs.Reached.{logged, Reached}
 use Rattle.runs.specs.Stands.{Stands}
@@ -24,8 +22,8 @@ pub record Told (es : List Entry) (before after : Desk) (n : ℕ) : Type 0 where
   pub accepted : n ≡ length log
 
 abbrev pub accepted_of : Outcome → ℕ
-accepted_of (Done n) = 1
-accepted_of (Refused n) = 0
+accepted_of (Ok n) = 1
+accepted_of (Err r) = 0
 
 -- there is a start in the log: from there on nothing depends on what was lent
 abbrev pub StartOr : Command → Type 0 → Type 0

@@ -1,9 +1,8 @@
 -- What a code says, as the entries that it makes: one, of a command with the corner numbers beside it, or none.
-use Rattle.std.specs.Prelude.{List, [], ◌∷◌, ℤ}
+use Rattle.std.specs.Prelude.{List, [], ◌∷◌, ℤ, Option, Some, None}
+use Rattle.desk.specs.declared.Command.{Command}
 use Rattle.runs.specs.Log.{Entry, ◌with◌}
-use Rattle.runs_told.specs.declared.tell.Coded.{Coded}
-use Rattle.runs_told.specs.declared.tell.Coded.TheVariants.{One, Passed}
 
-abbrev pub entries_of : Coded → List ℤ → List Entry
-entries_of (One command) numbers = command with numbers ∷ []
-entries_of Passed numbers = []
+abbrev pub entries_of : Option Command → List ℤ → List Entry
+entries_of (Some command) numbers = command with numbers ∷ []
+entries_of None numbers = []

@@ -8,7 +8,7 @@ use native.Mathlib.Omega.{arith}
 use lib.IntN.{pos}
 use lib.Ieee.{Float, of_fields, of_bits, binary32}
 use Rattle.limits.specs.Limits
-use Rattle.scans.specs.declared.Scan.{Scan}
+use Rattle.scans.specs.Scanned.{Scan}
 use Rattle.scans.specs.Floats.{with_sign, NotFinite, NotWhole}
 use Rattle.scans.specs.Scanned.{ScannedAs, TakenAs}
 use Rattle.scans.specs.Signs.{nat_abs_signed}

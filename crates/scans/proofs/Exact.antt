@@ -6,10 +6,11 @@ use mathlib.Core.Bool.{Bool, true, false}
 use mathlib.Core.Logic.{inl, inr}
 use native.Mathlib.Omega.{arith}
 use native.Mathlib.Nat.{mul-one, mul_assoc, mul_right_comm, lt_of_le_of_lt, mul-le-mul_right}
-use borrow.Author.Tests.{ltb-true, ltb-false}
+use Rattle.std.specs.Ordering.{is_le, int_cmp}
+use Rattle.std.proofs.Common.{Less, Greater, Equal, cond, ltb, leb, ◌&&◌}
+use Rattle.std.proofs.lemmas.Bool.Decides.{nat_tests}
 use lib.Dec.{T, le→leb, lt→ltb, lit<}
 use lib.IntN.{ℤ, pos, negsuc, nat_abs}
-use lib.Signed.{lt_z}
 use lib.Pow.{pow-add, pow-lt}
 use lib.Ieee.{Float, nan, inf, fin, up, down, unlike, round, div, of_int, in_float, fits, binary32}
 use lib.Ieee.Fits.{down_pos, div-fits}
@@ -89,14 +90,16 @@ out_of_range z h = record {
 }
 
 -- ---- the range, by its two ends
-pub below_low : (z : ℤ) → lt_z z (negsuc 131071) ≡ true → 131072 < nat_abs z
-below_low (pos n) h = absurd (subst T (sym h) tt)
-below_low (negsuc n) h = omega (arith, ltb-true 131071 n h)
+at_most : (m n : ℕ) → is_le (cond (ltb m n) Less (cond (ltb n m) Greater Equal)) ≡ leb m n
+at_most m n = grind (arith, nat_tests)
 
-pub above_high : (z : ℤ) → lt_z (pos 131072) z ≡ true → 131072 < nat_abs z
-above_high (pos n) h = ltb-true 131072 n h
-above_high (negsuc n) h = absurd (subst T (sym h) tt)
+pub in_reach : (z : ℤ) → is_le (int_cmp (negsuc 131071) z) && is_le (int_cmp z (pos 131072)) ≡ leb (nat_abs z) 131072
+in_reach (pos n) = at_most n 131072
+in_reach (negsuc n) = and_true (is_le (int_cmp (negsuc 131071) (negsuc n))) ∙ at_most n 131071 ∙ one_more
+  where
+    and_true : (b : Bool) → b && true ≡ b
+    and_true true = refl
+    and_true false = refl
 
-pub between : (z : ℤ) → lt_z z (negsuc 131071) ≡ false → lt_z (pos 131072) z ≡ false → nat_abs z ≤ 131072
-between (pos n) l h = ltb-false 131072 n h
-between (negsuc n) l h = omega (arith, ltb-false 131071 n l)
+    one_more : leb n 131071 ≡ leb (suc n) 131072
+    one_more = grind (arith, nat_tests)

@@ -3,3 +3,5 @@ pub mod Sized
 pub mod Fields
 pub mod Answers
 pub mod Exact
+pub mod ResultsOnce
+pub mod Within

@@ -4,7 +4,7 @@ use Rattle.std.specs.Prelude.{ℕ, ◌*◌, ◌/◌, ◌<◌, ◌≡◌, Bool, t
 use Rattle.std.specs.Float.{nan, inf, fin}
 use Rattle.std.specs.Float.Ieee.{up, down}
 use Rattle.limits.specs.Limits
-use Rattle.limits.specs.Lowest.{Refusal, ◌when◌}
+use Rattle.limits.specs.Lowest.{Rule, ◌when◌}
 
 -- a size with its sign: minus zero is 0
 abbrev pub with_sign : Bool → ℕ → ℤ
@@ -40,5 +40,5 @@ Beyond (inf s) = ⊥
 Beyond (fin s m e) = Limits.shape_reach * down e < m * up e * Limits.steps
 
 -- the refusals of what holds floats, where `of C` says that C is so of one of its floats
-abbrev pub refusals : ((Float → Type 0) → Type 0) → List Refusal
+abbrev pub refusals : ((Float → Type 0) → Type 0) → List Rule
 refusals of = Limits.not_finite when of NotFinite ∷ Limits.not_whole when of NotWhole ∷ Limits.float_range when of Beyond ∷ []

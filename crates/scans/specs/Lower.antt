@@ -1,12 +1,15 @@
 -- Two things that hold floats, together: the lower of their numbers is the lowest refusal of both.
 -- So a point, or any longer run of floats, is judged by one float after the other.
-use Rattle.std.specs.Prelude.{ℕ, zero, suc, ◌≤◌, ◌<◌, min, ◌≡◌, refl, ◌⊎◌, List, [], ◌∷◌, Float}
-use Rattle.std.proofs.Common.{ap, ◌∙◌, inl, inr, ⊎_elim, arith, eq-eqb, ne_eqb}
+use Rattle.std.specs.Prelude.{ℕ, zero, suc, ◌≤◌, ◌<◌, min, ◌≡◌, refl, Bool, true, false, cond, ltb, ◌⊎◌, List, [], ◌∷◌, Float, Result, Ok, Err}
+use Rattle.std.proofs.Common.{ap, ◌∙◌, sym, inl, inr, ⊎_elim, arith, eq-eqb, ne_eqb, ltb-true, ltb-false}
 use Rattle.std.proofs.Math.Nat.{min-eq_left, min-eq_right}
 use Rattle.limits.specs.Limits
-use Rattle.limits.specs.Lowest.{Refusal, Lowest, ◌when◌}
+use Rattle.limits.specs.Lowest.{Rule, Lowest, ◌when◌}
+use Rattle.limits.specs.Refusals.{number_of, answer_number}
+use Rattle.limits.specs.declared.Refusal.{Refusal}
+use Rattle.limits.proofs.RefusalLaws.{number_some}
 use Rattle.scans.specs.Floats.{NotFinite, NotWhole, Beyond, refusals}
-use Rattle.scans.specs.Scanned.{lower_of}
+use Rattle.scans.specs.Scanned.{lower_of, lower_refusal, both_of}
 
 -- n is no refusal, or one that comes after k
 abbrev pub After : ℕ → ℕ → Type 0
@@ -30,13 +33,40 @@ lower_none (suc m) zero e = absurd (let k : suc m ≡ 0 = simp (ne_eqb (suc m) 0
 lower_none (suc m) (suc n) e = absurd
     (let k : min (suc m) (suc n) ≡ 0 = simp (ne_eqb (suc m) 0 (λ z. omega arith), ne_eqb (suc n) 0 (λ z. omega arith)) at e in omega arith)
 
+-- ---- two answers together
+lower_number : (r s : Refusal) → number_of (lower_refusal r s) ≡ min (number_of r) (number_of s)
+lower_number r s = go (ltb (number_of s) (number_of r)) refl
+  where
+    go : (b : Bool) → ltb (number_of s) (number_of r) ≡ b → number_of (cond b s r) ≡ min (number_of r) (number_of s)
+    go true e = sym (min-eq_right (omega (arith, ltb-true (number_of s) (number_of r) e)))
+    go false e = sym (min-eq_left (ltb-false (number_of s) (number_of r) e))
+
+-- the number of both is the lower of theirs
+pub both_number : {A B : Type 0} (a : Result A Refusal) (b : Result B Refusal) → answer_number (both_of a b) ≡ lower_of (answer_number a) (answer_number b)
+both_number (Ok x) (Ok y) = refl
+both_number (Ok x) (Err s) = refl
+both_number (Err r) (Ok y) = sym (lower_left (number_of r) 0 (number_some r) (inl refl))
+both_number (Err r) (Err s) =
+    simp (ne_eqb (number_of r) 0 (λ z. omega (arith, number_some r)), ne_eqb (number_of s) 0 (λ z. omega (arith, number_some s))) (lower_number r s)
+
+abbrev value : {A : Type 0} → A → Result A Refusal → A
+value x (Ok y) = y
+value x (Err r) = x
+
+-- both are given where neither is refused
+pub both_given : {A B : Type 0} {a : Result A Refusal} {b : Result B Refusal} {x : A} {y : B} → both_of a b ≡ Ok (x, y) → (a ≡ Ok x) × (b ≡ Ok y)
+both_given {A} {B} {a = Ok v} {b = Ok w} {x} {y} e = let p : (v, w) ≡ (x, y) = ap (value (v, w)) e in (ap (λ (q : A × B). Ok q.0) p, ap (λ (q : A × B). Ok q.1) p)
+both_given {a = Ok x} {b = Err s} e = absurd (cc)
+both_given {a = Err r} {b = Ok y} e = absurd (cc)
+both_given {a = Err r} {b = Err s} e = absurd (cc)
+
 -- a refusal of both, and when it applies to the one and to the other
 record OfBoth : Type 1 where
   number : ℕ
   one : Type 0
   other : Type 0
 
-abbrev sides : (OfBoth → Type 0) → List OfBoth → List Refusal
+abbrev sides : (OfBoth → Type 0) → List OfBoth → List Rule
 sides when-so [] = []
 sides when-so (r ∷ rest) = r.number when when-so r ∷ sides when-so rest
 

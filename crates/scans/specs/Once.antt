@@ -14,13 +14,10 @@ use Rattle.limits.specs.Limits
 use Rattle.limits.specs.Lowest.{◌when◌}
 use Rattle.limits.proofs.LowestLaws.{lowest_once}
 use Rattle.scans.specs.Floats.{InSteps, refusals}
-use Rattle.scans.specs.Scanned.{ScannedAs, One, PointAs}
-use Rattle.scans.specs.Shown.{ShownAs, PatternOf}
+use Rattle.scans.specs.Scanned.{Scan, ScannedAs, One, Scanned, PointAs}
+use Rattle.scans.specs.Shown.{Millimetres, ShownAs, PatternOf}
 use Rattle.scans.specs.Signs.{sign_of, size_of}
-use Rattle.scans.specs.declared.Scan.{Scan}
 use Rattle.scans.specs.declared.Point.{Point}
-use Rattle.scans.specs.declared.Scanned.{Scanned}
-use Rattle.scans.specs.declared.Millimetres.{Millimetres}
 
 -- a number is 0, or it is not
 pub zero_or : (n : ℕ) → (n ≡ 0) ⊎ (n ≡ 0 → ⊥)

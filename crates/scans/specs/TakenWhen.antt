@@ -12,10 +12,9 @@ use Rattle.ints.specs.Order.{lt-or-ge}
 use Rattle.limits.specs.Limits
 use Rattle.limits.specs.Lowest.{Lowest}
 use Rattle.scans.specs.Floats.{with_sign, InSteps, steps_of, NotFinite, NotWhole, Beyond, refusals}
-use Rattle.scans.specs.Scanned.{ScannedAs}
+use Rattle.scans.specs.Scanned.{Scan, ScannedAs}
 use Rattle.scans.specs.Signs.{sign_of, size_of}
 use Rattle.scans.specs.Once.{steps_once}
-use Rattle.scans.specs.declared.Scan.{Scan}
 
 -- a float that is z steps has z as its steps
 pub steps_are : (x : Float) (z : ℤ) → InSteps x z → steps_of x ≡ z

@@ -5,38 +5,25 @@
 ghost use Rattle.std.specs.Prelude.{◌/◌, ◌%◌, ◌≤◌, ◌<◌, ◌≡◌};
 ghost use Rattle.std.specs.Float.{binary32};
 ghost use Rattle.std.specs.Float.Ieee.{of_bits, of_fields};
-ghost use Rattle.scans.specs.Scanned.{TakenAs, lower_of, ScannedAs, of_patterns, PointAs};
-ghost use Rattle.scans.specs.Shown.{PatternOf, ShownAs};
+ghost use Rattle.scans.specs.Scanned.{scan_of, scanned_of, both_of, TakenAs, ScannedAs, of_patterns, PointAs};
+ghost use Rattle.scans.specs.Shown.{PatternOf, millimetres_of, ShownAs};
+
+use limits::Refusal;
 
 // A scanned point, in millimetres.
-#[derive(Drop)]
+#[derive(Clone, Copy)]
 pub struct Point {
     pub x: f32,
     pub y: f32,
     pub z: f32,
 }
 
-// What one float gives: 0 and its steps, or the number of the refusal and 0.
-#[derive(Drop)]
-pub struct Scan {
-    pub number: u8,
-    pub steps: i32,
-}
-
-// What a point gives: 0 and its steps, or the lowest number that applies to any of its floats and zeros.
-#[derive(Drop)]
-pub struct Scanned {
-    pub number: u8,
+// A point in steps.
+#[derive(Clone, Copy)]
+pub struct Steps {
     pub x: i32,
     pub y: i32,
     pub z: i32,
-}
-
-// What steps give: 0 and the millimetres to show, or the number of the refusal and plus zero.
-#[derive(Drop)]
-pub struct Millimetres {
-    pub number: u8,
-    pub value: f32,
 }
 
 // The parts of a pattern, from the highest: the sign, an exponent, and the digits below the leading one.
@@ -59,77 +46,52 @@ const ONE_STEP: u32 = 121;
 const REACH: u32 = limits::SHAPE_REACH as u32;
 
 // The whole number of steps `size`, with its sign, if it is in range.
-fn taken(minus: bool, size: u32) -> Scan
-    ensures { TakenAs minus size result }
+fn taken(minus: bool, size: u32) -> Result<i32, Refusal>
+    ensures { TakenAs minus size (scan_of result) }
 {
     if REACH < size {
-        return Scan {
-            number: limits::FLOAT_RANGE,
-            steps: 0,
-        };
+        return Err(Refusal::FloatRange);
     }
     let steps = size as i32;
-    if minus {
-        return Scan {
-            number: limits::DONE,
-            steps: -steps,
-        };
-    }
-    Scan {
-        number: limits::DONE,
-        steps,
-    }
+    Ok(if minus { -steps } else { steps })
 }
 
 // Less than one step in size: a zero of either sign, or no whole number of steps.
-fn under_one_step(pattern: u32) -> Scan
+fn under_one_step(pattern: u32) -> Result<i32, Refusal>
     requires { pattern % 2147483648 / 8388608 < 121 }
-    ensures { ScannedAs (of_bits binary32 pattern) result }
+    ensures { ScannedAs (of_bits binary32 pattern) (scan_of result) }
 {
     if pattern % SIGN == 0 {
-        return Scan {
-            number: limits::DONE,
-            steps: 0,
-        };
-    }
-    Scan {
-        number: limits::NOT_WHOLE,
-        steps: 0,
+        Ok(0)
+    } else {
+        Err(Refusal::NotWhole)
     }
 }
 
 // From one step on, the last digits still behind the point: so many of the parts that a step has.
-fn parts_of_steps(minus: bool, exponent: u32, fraction: u32) -> Scan
+fn parts_of_steps(minus: bool, exponent: u32, fraction: u32) -> Result<i32, Refusal>
     requires { (121 ≤ exponent) × (exponent < 144) × (fraction < 8388608) }
-    ensures { ScannedAs (of_fields binary32 minus exponent fraction) result }
+    ensures { ScannedAs (of_fields binary32 minus exponent fraction) (scan_of result) }
 {
     let digits = LEADING + fraction;
     let step = 1u32 << (WHOLE - exponent);
     if digits % step == 0 {
-        return taken(minus, digits / step);
-    }
-    Scan {
-        number: limits::NOT_WHOLE,
-        steps: 0,
+        taken(minus, digits / step)
+    } else {
+        Err(Refusal::NotWhole)
     }
 }
 
-// The float whose bit pattern this is, as a file has it.
-pub fn scan_pattern(pattern: u32) -> Scan
-    ensures { ScannedAs (of_bits binary32 pattern) result }
+// The steps of the float whose bit pattern this is, as a file has it.
+pub fn scan_pattern(pattern: u32) -> Result<i32, Refusal>
+    ensures { ScannedAs (of_bits binary32 pattern) (scan_of result) }
 {
     let exponent = pattern % SIGN / LEADING;
     if exponent == NOT_A_VALUE {
-        return Scan {
-            number: limits::NOT_FINITE,
-            steps: 0,
-        };
+        return Err(Refusal::NotFinite);
     }
     if WHOLE <= exponent {
-        return Scan {
-            number: limits::FLOAT_RANGE,
-            steps: 0,
-        };
+        return Err(Refusal::FloatRange);
     }
     if exponent < ONE_STEP {
         return under_one_step(pattern);
@@ -141,83 +103,51 @@ pub fn scan_pattern(pattern: u32) -> Scan
 pub fn pattern(x: f32) -> u32
     ensures { PatternOf x result }
 {
-    if x != x {
-        return NAN;
-    }
-    f32::to_bits(x)
+    if x.is_nan() { NAN } else { x.to_bits() }
 }
 
-pub fn scan_float(x: f32) -> Scan
-    ensures { ScannedAs x result }
+pub fn scan_float(x: f32) -> Result<i32, Refusal>
+    ensures { ScannedAs x (scan_of result) }
 {
     scan_pattern(pattern(x))
 }
 
-// The lower of two refusals, where 0 says that none applies.
-pub fn lower(a: u8, b: u8) -> u8
-    ensures { result ≡ lower_of a b }
+// Both values, or the lower of the refusals: so things are judged together that were scanned one after the other.
+#[tactic(auto, using(limits::proofs::RefusalLaws::min_is))]
+pub fn both<A: Copy, B: Copy>(
+    a: Result<A, Refusal>,
+    b: Result<B, Refusal>,
+) -> Result<(A, B), Refusal>
+    ensures { result ≡ both_of a b }
 {
-    if a == limits::DONE {
-        return b;
+    match (a, b) {
+        (Ok(x), Ok(y)) => Ok((x, y)),
+        (Ok(_), Err(r)) => Err(r),
+        (Err(r), Ok(_)) => Err(r),
+        (Err(r), Err(s)) => Err(r.min(s)),
     }
-    if b == limits::DONE {
-        return a;
-    }
-    if a < b { a } else { b }
 }
 
 // Three floats by their bit patterns, as a file has a corner.
-pub fn scan_patterns(x: u32, y: u32, z: u32) -> Scanned
-    ensures { PointAs (of_patterns x y z) result }
+pub fn scan_patterns(x: u32, y: u32, z: u32) -> Result<Steps, Refusal>
+    ensures { PointAs (of_patterns x y z) (scanned_of result) }
 {
-    let a = scan_pattern(x);
-    let b = scan_pattern(y);
-    let c = scan_pattern(z);
-    let number = lower(a.number, lower(b.number, c.number));
-    if number == limits::DONE {
-        return Scanned {
-            number: limits::DONE,
-            x: a.steps,
-            y: b.steps,
-            z: c.steps,
-        };
-    }
-    Scanned {
-        number,
-        x: 0,
-        y: 0,
-        z: 0,
-    }
+    let (x, (y, z)) = both(scan_pattern(x), both(scan_pattern(y), scan_pattern(z)))?;
+    Ok(Steps { x, y, z })
 }
 
-pub fn scan_point(point: Point) -> Scanned
-    ensures { PointAs point result }
+pub fn scan_point(point: Point) -> Result<Steps, Refusal>
+    ensures { PointAs point (scanned_of result) }
 {
-    let x = pattern(point.x);
-    let y = pattern(point.y);
-    let z = pattern(point.z);
-    scan_patterns(x, y, z)
+    scan_patterns(pattern(point.x), pattern(point.y), pattern(point.z))
 }
 
 // The millimetres to show for steps within the range of a placed corner: a division that never rounds.
-pub fn shown(steps: i32) -> Millimetres
-    ensures { ShownAs steps result }
+pub fn shown(steps: i32) -> Result<f32, Refusal>
+    ensures { ShownAs steps (millimetres_of result) }
 {
-    if steps < -limits::PLACED_REACH {
-        return Millimetres {
-            number: limits::PLACED_RANGE,
-            value: 0.0,
-        };
+    if !(-limits::PLACED_REACH..=limits::PLACED_REACH).contains(&steps) {
+        return Err(Refusal::PlacedRange);
     }
-    if limits::PLACED_REACH < steps {
-        return Millimetres {
-            number: limits::PLACED_RANGE,
-            value: 0.0,
-        };
-    }
-    let value = (steps as f32) / 64.0;
-    Millimetres {
-        number: limits::DONE,
-        value,
-    }
+    Ok(steps as f32 / 64.0)
 }

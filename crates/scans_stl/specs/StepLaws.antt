@@ -11,9 +11,8 @@ use Rattle.scans.specs.Floats.{refusals}
 use Rattle.scans.specs.Lower.{same_floats}
 use Rattle.scans.specs.Once.{zero_or}
 use Rattle.scans_stl.specs.Stl.{first_at, triangle_bytes, triangle_count, triangle_at, AnyOf, file_refusals}
-use Rattle.scans_stl.specs.Steps.{TriangleStarts, step_refusals, no_triangle, StepAs, TriangleAs}
+use Rattle.scans_stl.specs.Steps.{Handed, TriangleStarts, step_refusals, no_triangle, StepAs, TriangleAs}
 use Rattle.scans_stl.specs.Reading.{NextAs}
-use Rattle.scans_stl.specs.declared.Handed.{Handed}
 use Rattle.scans_stl.specs.declared.Reader.{Reader}
 
 equal : (m n : ℕ) → ((m ≡ n → ⊥) → ⊥) → m ≡ n

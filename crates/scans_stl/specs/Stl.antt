@@ -2,7 +2,7 @@
 -- three corners, each three little-endian binary32 numbers, and a 16-bit attribute)." "Header, normals and attributes aren't read."
 use Rattle.std.specs.Prelude.{ℕ, zero, suc, ◌+◌, ◌*◌, ◌<◌, ◌≡◌, List, [], ◌∷◌, ◌++◌, ◌⊎◌, ℤ, length, get_or, Float}
 use Rattle.limits.specs.Limits
-use Rattle.limits.specs.Lowest.{Refusal, ◌when◌}
+use Rattle.limits.specs.Lowest.{Rule, ◌when◌}
 use Rattle.scans.specs.Floats.{InSteps, steps_of}
 use Rattle.scans.specs.Scanned.{One, of_patterns}
 use Rattle.scans.specs.declared.Point.{Point}
@@ -86,5 +86,5 @@ abbrev pub NoTriangles : List ℕ → Type 0
 NoTriangles file = triangle_count file ≡ 0
 
 -- "Order: 21, 22", and what follows is each call's own
-abbrev pub file_refusals : List ℕ → List Refusal
+abbrev pub file_refusals : List ℕ → List Rule
 file_refusals file = Limits.file_length when WrongLength file ∷ Limits.count_zero when NoTriangles file ∷ []

@@ -5,11 +5,10 @@ use Rattle.std.proofs.Common.{ap, ◌∙◌, inl, inr, ⊎_elim, arith}
 use Rattle.limits.specs.Limits
 use Rattle.limits.specs.Lowest.{Lowest}
 use Rattle.scans.specs.Floats.{NotFinite, NotWhole, refusals}
-use Rattle.scans.specs.Scanned.{One, PointAs, lower_of}
+use Rattle.scans.specs.Scanned.{One, Scanned, PointAs, lower_of}
 use Rattle.scans.specs.Lower.{together, same_floats}
 use Rattle.scans.specs.TakenWhen.{none_applies, steps_are, steps_of_lem}
 use Rattle.scans.specs.declared.Point.{Point}
-use Rattle.scans.specs.declared.Scanned.{Scanned}
 use Rattle.scans_stl.specs.Stl.{triangle_bytes, triangle_at, corners_from, AnyOf, in_steps, AllInSteps}
 
 -- the lowest refusal of the floats of corners

@@ -1,13 +1,13 @@
 -- What the helpers of this crate give: an array that holds the corners kept so far, as many as a shape may have, and a count that goes one further.
 -- The contract of `corners` cites nothing of this file.
-use Rattle.std.specs.Prelude.{ℕ, zero, suc, ◌+◌, ◌*◌, ◌≤◌, min, ◌≡◌, List, [], ◌∷◌, ◌++◌, map, ℤ, pos, length, get_or, set}
+use Rattle.std.specs.Prelude.{ℕ, zero, suc, ◌+◌, ◌*◌, ◌≤◌, min, ◌≡◌, List, [], ◌∷◌, ◌++◌, map, ℤ, pos, length, get_or, set, Result, Ok, Err}
 use Rattle.limits.specs.Limits
 use Rattle.limits.specs.Lowest.{Lowest}
+use Rattle.limits.specs.Refusals.{number_of}
+use Rattle.limits.specs.declared.Refusal.{Refusal}
 use Rattle.scans.specs.Floats.{refusals}
 use Rattle.scans_stl.specs.Stl.{first_at, triangle_bytes, triangle_count, corners_from, file_corners, AnyOf, Corner, in_steps}
-use Rattle.scans_stl_corners.specs.Kept.{keep_all, first_appearances, kept_of, kept_refusals, RoomFilled}
-use Rattle.scans_stl_corners.specs.declared.ShapeRead.{ShapeRead}
-use Rattle.scans_stl_corners.specs.declared.Collected.{Collected}
+use Rattle.scans_stl_corners.specs.Kept.{keep_all, first_appearances, kept_of, kept_refusals, ShapeRead, RoomFilled}
 
 abbrev pub corner_of : ℤ → ℤ → ℤ → Corner
 corner_of x y z = record { x = x; y = y; z = z }
@@ -40,6 +40,15 @@ pub record ReadUpTo (file : List ℕ) (at : ℕ) (a : List ℤ) (number count : 
   pub place : at ≡ first_at + triangle_bytes * nth
   pub lowest : Lowest (refusals (λ C. AnyOf C (corners_from file first_at nth))) number
   pub holding : number ≡ Limits.done → Holding a count (first_appearances (map in_steps (corners_from file first_at nth)))
+
+-- the lowest refusal of all floats, and how many corners were kept: one more than a shape may have where there are too many
+pub record Collected : Type 0 where
+  pub number : ℕ
+  pub count : ℕ
+
+abbrev pub collected_of : Result ℕ Refusal → Collected
+collected_of (Ok n) = record { number = Limits.done; count = n }
+collected_of (Err r) = record { number = number_of r; count = 0 }
 
 -- all triangles
 pub record CollectedAs (file : List ℕ) (a : List ℤ) (r : Collected) : Type 0 where

@@ -9,8 +9,7 @@ use Rattle.scans.specs.Lower.{lower_none}
 use Rattle.scans.specs.declared.Point.{Point}
 use Rattle.scans_stl.specs.Stl.{first_at, triangle_bytes, triangle_count, triangle_at, corners_from, Corner, in_steps}
 use Rattle.scans_stl.specs.StlLaws.{LowestOf, none_of, both_of_lem, corners_more}
-use Rattle.scans_stl.specs.Steps.{TriangleAs}
-use Rattle.scans_stl.specs.declared.Handed.{Handed}
+use Rattle.scans_stl.specs.Steps.{Handed, TriangleAs}
 use Rattle.scans_stl_corners.specs.Kept.{keep_all, first_appearances}
 use Rattle.scans_stl_corners.specs.KeptLaws.{keep_append}
 use Rattle.scans_stl_corners.specs.Holding.{corners_held, Holding, Keeps, ReadUpTo, CollectedAs}
@@ -34,7 +33,7 @@ module _ {file : List ℕ} {at : ℕ} {a : List ℤ} {number count : ℕ} (h : R
   pub reading_within : at < length file → at + triangle_bytes ≤ length file
   reading_within l = omega (arith, h.place)
 
-  pub reading_more : {b : List ℤ} {n m : ℕ} {r : Handed} → at < length file → TriangleAs file at r → n ≡ lower_of number r.number → Keeps a count (corners_held r.corners 3) b m
+  pub reading_more : {b : List ℤ} {n m : ℕ} {r : Handed} → at < length file → TriangleAs file at r → n ≡ lower_of number r.number → (n ≡ Limits.done → Keeps a count (corners_held r.corners 3) b m)
       → ReadUpTo file (at + triangle_bytes) b n m
   reading_more {b} {n} {m} {r} l t e k = record {
     nth = suc h.nth;
@@ -45,7 +44,7 @@ module _ {file : List ℕ} {at : ℕ} {a : List ℤ} {number count : ℕ} (h : R
     holding = λ z.
         let u = lower_none number r.number (sym e ∙ z) in
         let c : corners_held r.corners 3 ≡ map in_steps (triangle_at file at) = ap (λ (r : Handed). corners_held r.corners 3) (t.handed u.1) in
-        subst (Holding b m) (keeps_more _ refl) (subst (λ (c : List Corner). Keeps a count c b m) c k _ (h.holding u.0));
+        subst (Holding b m) (keeps_more _ refl) (subst (λ (c : List Corner). Keeps a count c b m) c (k z) _ (h.holding u.0));
   }
 
   pub reading_all : length file ≤ at → CollectedAs file a (record { number = number; count = count })

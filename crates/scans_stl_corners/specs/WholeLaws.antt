@@ -10,9 +10,8 @@ use Rattle.scans.specs.Once.{zero_or}
 use Rattle.scans_stl.specs.Stl.{file_corners, AnyOf, file_refusals}
 use Rattle.scans_stl.specs.StlLaws.{LowestOf}
 use Rattle.scans_stl.specs.StepLaws.{file_positive}
-use Rattle.scans_stl_corners.specs.Kept.{kept_of, kept_refusals, whole_refusals, ShapeReadAs}
+use Rattle.scans_stl_corners.specs.Kept.{kept_of, kept_refusals, whole_refusals, ShapeRead, ShapeReadAs}
 use Rattle.scans_stl_corners.specs.Holding.{FillsAs}
-use Rattle.scans_stl_corners.specs.declared.ShapeRead.{ShapeRead}
 
 module _ {file : List ℕ} {before : List ℤ} where
   pub whole_refused : {n : ℕ} → (n ≡ Limits.done → ⊥) → Lowest (file_refusals file) n → ShapeReadAs file before before (record { number = n; count = 0 })

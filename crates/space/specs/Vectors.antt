@@ -2,6 +2,8 @@
 -- A corner, a difference of corners and a direction are all of this kind.
 use Rattle.std.specs.Prelude.{◌≡◌, List, ◌∷◌, ℤ, pos, ◌+ℤ◌, ◌-ℤ◌, ◌*ℤ◌}
 pub use Rattle.space.specs.declared.Vec3.{Vec3}
+use Rattle.space.specs.declared.Axis.{Axis}
+use Rattle.space.specs.declared.Axis.TheVariants.{X, Y, Z}
 
 -- d·a
 abbrev pub dot : Vec3 → Vec3 → ℤ
@@ -42,3 +44,19 @@ vec_eq p q r = λ i. record { x = p i; y = q i; z = r i }
 -- the three coordinates, before others: the atoms that `by_ring` is called with
 abbrev pub env1 : Vec3 → List ℤ → List ℤ
 env1 a r = a.x ∷ a.y ∷ a.z ∷ r
+
+-- ---- the axes, each with the one after it, and what lies along each
+abbrev pub next_axis : Axis → Axis
+next_axis X = Y
+next_axis Y = Z
+next_axis Z = X
+
+abbrev pub unit : Axis → Vec3
+unit X = record { x = pos 1; y = pos 0; z = pos 0 }
+unit Y = record { x = pos 0; y = pos 1; z = pos 0 }
+unit Z = record { x = pos 0; y = pos 0; z = pos 1 }
+
+abbrev pub coordinate : Axis → Vec3 → ℤ
+coordinate X v = v.x
+coordinate Y v = v.y
+coordinate Z v = v.z

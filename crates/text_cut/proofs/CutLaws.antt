@@ -3,12 +3,17 @@
 use Prim.Native.Nat.{ℕ, suc, ◌≤◌, ◌<◌}
 use Rattle.std.specs.Prelude.{◌≡◌, drop}
 use Rattle.std.proofs.Math.Path.{refl, ap, subst}
-use Rattle.std.proofs.Common.{sym, ◌∙◌}
+use Rattle.std.proofs.Common.{eq-eqb, sym, ◌∙◌}
 use mathlib.Core.List.{List, [], ◌∷◌, ◌++◌}
 use Rattle.std.proofs.Math.Logic.{ite, if_pos, if_neg}
 use Rattle.std.proofs.Math.Decide.{ℕ_discrete}
 use native.Mathlib.Omega.{arith}
 use Rattle.std.proofs.Math.ListN.{length, take}
+use Rattle.std.specs.List.{position, position_or_len}
+use Rattle.std.specs.Option.{unwrap_or}
+use Rattle.std.proofs.lemmas.Bool.{ne_eqb}
+use Rattle.std.proofs.lemmas.Bool.Decides.{nat_tests}
+use Rattle.std.specs.Prelude.{◌==◌, ◌+◌, cond, not}
 use Rattle.text_cut.specs.Cuts.{Uncut, Cut, last, cut, first_part, onto, parts_of}
 
 module _ (c : ℕ) where
@@ -107,3 +112,17 @@ module _ (c : ℕ) where
   pub cut_is : {s : List ℕ} {parts : List (List ℕ)} → Cut c s parts → parts ≡ parts_of c s
   cut_is (last part u) = sym (uncut_parts part u)
   cut_is (cut part {rest = r} u more) = ap (λ (ps : List (List ℕ)). part ∷ ps) (cut_is more) ∙ sym (cut_parts part r u)
+
+  -- ---- the place of the first c
+  pub first_place : (s : List ℕ) → length (first_part c s) ≡ position_or_len (λ b. b == c) s
+  unfolding first_part
+  first_place [] = refl
+  first_place (b ∷ s) = go (ℕ_discrete b c) (first_place s)
+    where
+      go : (d : Dec (b ≡ c)) → length (first_part c s) ≡ position_or_len (λ x. x == c) s
+          → length (ite d [] (b ∷ first_part c s)) ≡ cond (not (b == c)) (1 + position_or_len (λ x. x == c) s) 0
+      go (yes e) h = rw (eq-eqb b c e)
+      go (no n) h = rw (ne_eqb b c n) (omega (arith, h))
+
+  pub first_found : (s : List ℕ) → unwrap_or (position (λ b. b == c) s) (length s) ≡ length (first_part c s)
+  first_found s = grind (arith, nat_tests, first_place s, first_le s)

@@ -19,10 +19,7 @@ pub struct Run {
 pub fn is_digit(b: u8) -> bool
     ensures { (result ≡ true) ↔ Digit b }
 {
-    if b < b'0' {
-        return false;
-    }
-    b <= b'9'
+    b.is_ascii_digit()
 }
 
 // The digits from a place on.
@@ -31,21 +28,23 @@ pub fn digits(text: &[u8], from: usize) -> Run
     ensures count { result.count ≡ length (leading (drop from text.now)) }
     ensures value { result.value ≡ min (number (leading (drop from text.now))) cut }
 {
+    leading_run(&text[from..])
+}
+
+// The digits that a text starts with.
+fn leading_run(text: &[u8]) -> Run
+    ensures count { result.count ≡ length (leading text.now) }
+    ensures value { result.value ≡ min (number (leading text.now)) cut }
+{
     let mut value: u32 = 0;
-    let mut i = from;
-    while i < text.len() {
-        let b = text[i];
+    for (count, &b) in text.iter().enumerate() {
         if !is_digit(b) {
-            return Run {
-                count: i - from,
-                value,
-            };
+            return Run { count, value };
         }
         value = one_more(value, b);
-        i += 1;
     }
     Run {
-        count: i - from,
+        count: text.len(),
         value,
     }
 }
@@ -55,6 +54,5 @@ fn one_more(value: u32, b: u8) -> u32
     requires { (value ≤ cut) × Digit b }
     ensures { result ≡ min (value * 10 + (b - 48)) cut }
 {
-    let next = value * 10 + (b - b'0') as u32;
-    if next < CUT { next } else { CUT }
+    (value * 10 + u32::from(b - b'0')).min(CUT)
 }

@@ -1,10 +1,6 @@
 -- Hex as words: a float is "a bit pattern of 8 hex digits", a text two digits a byte and `-` for none (docs/COMMANDS.md); both cases are read.
 -- `PatternReads` and `TextReads` are all that is promised of the answers to a word.
-use Rattle.std.specs.Prelude.{ℕ, ◌≤◌, ◌<◌, ◌+◌, ◌-◌, ◌*◌, ◌^◌, ◌≡◌, Bool, false, cond, List, [], ◌∷◌, ◌++◌, ◌⊎◌, leb, length, drop}
-use Rattle.text_hex.specs.declared.Pattern.{Pattern}
-use Rattle.text_hex.specs.declared.Pattern.TheVariants.{Value, Bad}
-use Rattle.text_hex.specs.declared.Text.{Text}
-use Rattle.text_hex.specs.declared.Text.TheVariants.{Bytes, Bad as NoText}
+use Rattle.std.specs.Prelude.{ℕ, ◌≤◌, ◌<◌, ◌+◌, ◌-◌, ◌*◌, ◌^◌, ◌≡◌, Bool, false, cond, List, [], ◌∷◌, ◌++◌, ◌⊎◌, leb, length, drop, Option, Some, None}
 
 abbrev pub in_range : ℕ → ℕ → ℕ → Bool
 in_range low high b = cond (leb low b) (leb b high) false
@@ -28,9 +24,9 @@ hex_number [] = 0
 hex_number (b ∷ s) = worth_of b * 16 ^ length s + hex_number s
 
 -- a bit pattern: 8 hex digits
-abbrev pub PatternReads : List ℕ → Pattern → Type 0
-PatternReads word (Value v) = (length word ≡ 8) × HexDigits word × (v ≡ hex_number word)
-PatternReads word Bad = length word ≡ 8 → HexDigits word → ⊥
+abbrev pub PatternReads : List ℕ → Option ℕ → Type 0
+PatternReads word (Some v) = (length word ≡ 8) × HexDigits word × (v ≡ hex_number word)
+PatternReads word None = length word ≡ 8 → HexDigits word → ⊥
 
 -- the bytes of a text, two digits each
 unfoldable pub bytes_of : List ℕ → List ℕ
@@ -42,11 +38,11 @@ bytes_of (a ∷ b ∷ s) = (worth_of a * 16 + worth_of b) ∷ bytes_of s
 abbrev pub IsText : List ℕ → Type 0
 IsText word = (word ≡ 45 ∷ []) ⊎ (HexDigits word × (length word ≡ length (bytes_of word) * 2) × (0 < length word))
 
-abbrev pub Measured : List ℕ → Text → Type 0
-Measured word (Bytes n) = IsText word × (n ≡ length (bytes_of word))
-Measured word NoText = IsText word → ⊥
+abbrev pub Measured : List ℕ → Option ℕ → Type 0
+Measured word (Some n) = IsText word × (n ≡ length (bytes_of word))
+Measured word None = IsText word → ⊥
 
 -- the text's bytes stand in the room's first cells; or the word is no text or the room too short, and the room stays as it was
-abbrev pub TextReads : List ℕ → List ℕ → List ℕ → Text → Type 0
-TextReads word room exit (Bytes n) = IsText word × (n ≡ length (bytes_of word)) × (n ≤ length room) × (exit ≡ bytes_of word ++ drop n room)
-TextReads word room exit NoText = (IsText word → length room < length (bytes_of word)) × (exit ≡ room)
+abbrev pub TextReads : List ℕ → List ℕ → List ℕ → Option ℕ → Type 0
+TextReads word room exit (Some n) = IsText word × (n ≡ length (bytes_of word)) × (n ≤ length room) × (exit ≡ bytes_of word ++ drop n room)
+TextReads word room exit None = (IsText word → length room < length (bytes_of word)) × (exit ≡ room)

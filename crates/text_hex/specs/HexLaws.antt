@@ -1,29 +1,28 @@
 -- Laws of hex words: a pattern is read digit by digit, a text's bytes pair by pair.
 -- Two answers that are allowed for one word are equal (`pattern_once`, `text_once`).
-use Rattle.std.specs.Prelude.{ℕ, zero, suc, ◌≤◌, ◌<◌, ◌+◌, ◌-◌, ◌*◌, ◌^◌, ◌≡◌, refl, List, [], ◌∷◌, ◌++◌, Bool, true, false, cond, length, get_or, drop}
+use Rattle.std.specs.Prelude.{ℕ, zero, suc, ◌≤◌, ◌<◌, ◌+◌, ◌*◌, ◌^◌, ◌≡◌, refl, List, [], ◌∷◌, ◌++◌, true, length, get_or, drop, Option, Some, None}
 use Rattle.std.proofs.Common.{sym, ap, ap₂, ◌∙◌, subst, mul_assoc, add-mul, zero-mul, arith}
-use Rattle.std.proofs.lemmas.Bool.{false≢true}
+use Rattle.std.specs.Char.{digit_value, is_ascii_hexdigit}
+use Rattle.std.specs.List.{list_all}
+use Rattle.std.proofs.lemmas.Bool.{and_parts}
+use Rattle.std.proofs.lemmas.Bool.Decides.{nat_tests}
 use Rattle.std.proofs.Math.Nat.{pow-succ'}
-use Rattle.text_hex.specs.Hex.{in_range, worth_of, HexDigits, hex_number, PatternReads, bytes_of, TextReads}
-use Rattle.text_hex.specs.declared.Pattern.{Pattern}
-use Rattle.text_hex.specs.declared.Pattern.TheVariants.{Value, Bad}
-use Rattle.text_hex.specs.declared.Text.{Text}
-use Rattle.text_hex.specs.declared.Text.TheVariants.{Bytes, Bad as NoText}
+use Rattle.text_hex.specs.Hex.{worth_of, HexDigits, hex_number, PatternReads, bytes_of, TextReads}
 
 -- ---- one answer
-pub pattern_once : (word : List ℕ) (q r : Pattern) → PatternReads word q → PatternReads word r → q ≡ r
-pattern_once word (Value v) (Value w) a b = ap Value (a.2 ∙ sym b.2)
-pattern_once word (Value v) Bad a b = absurd (b a.0 a.1)
-pattern_once word Bad (Value w) a b = absurd (a b.0 b.1)
-pattern_once word Bad Bad a b = refl
+pub pattern_once : (word : List ℕ) (q r : Option ℕ) → PatternReads word q → PatternReads word r → q ≡ r
+pattern_once word (Some v) (Some w) a b = ap Some (a.2 ∙ sym b.2)
+pattern_once word (Some v) None a b = absurd (b a.0 a.1)
+pattern_once word None (Some w) a b = absurd (a b.0 b.1)
+pattern_once word None None a b = refl
 
-pub text_once : (word room x y : List ℕ) (q r : Text) → TextReads word room x q → TextReads word room y r → (q ≡ r) × (x ≡ y)
-text_once word room x y (Bytes m) (Bytes n) a b =
+pub text_once : (word room x y : List ℕ) (q r : Option ℕ) → TextReads word room x q → TextReads word room y r → (q ≡ r) × (x ≡ y)
+text_once word room x y (Some m) (Some n) a b =
     let e : m ≡ n = a.1 ∙ sym b.1 in
-    (ap Bytes e, a.3 ∙ ap (λ (k : ℕ). bytes_of word ++ drop k room) e ∙ sym b.3)
-text_once word room x y (Bytes m) NoText a b = absurd (omega (arith, b.0 a.0, a.1, a.2))
-text_once word room x y NoText (Bytes n) a b = absurd (omega (arith, a.0 b.0, b.1, b.2))
-text_once word room x y NoText NoText a b = (refl, a.1 ∙ sym b.1)
+    (ap Some e, a.3 ∙ ap (λ (k : ℕ). bytes_of word ++ drop k room) e ∙ sym b.3)
+text_once word room x y (Some m) None a b = absurd (omega (arith, b.0 a.0, a.1, a.2))
+text_once word room x y None (Some n) a b = absurd (omega (arith, a.0 b.0, b.1, b.2))
+text_once word room x y None None a b = (refl, a.1 ∙ sym b.1)
 
 -- ---- a number read digit by digit: v so far, then the digits
 unfoldable pub hex_after : ℕ → List ℕ → ℕ
@@ -65,32 +64,35 @@ bytes_half (a ∷ []) n h = absurd (omega arith)
 bytes_half (a ∷ b ∷ s) zero h = absurd (omega arith)
 bytes_half (a ∷ b ∷ s) (suc n) h = ap suc (bytes_half s n (omega arith))
 
--- ---- what a digit is worth, by the range that it lies in
-pick : (x y : ℕ) (t : Bool) → t ≡ true → x ≡ cond t x y
-pick x y true e = refl
-pick x y false e = absurd (false≢true e)
+-- ---- what a digit is worth, in the library's words: the value of a hex digit, and 16 where the byte is none
+pub worth_value : (b : ℕ) → digit_value b < 16 → worth_of b ≡ digit_value b
+unfolding worth_of
+worth_value b = grind (arith, nat_tests)
 
-skip : (x y : ℕ) (t : Bool) → t ≡ false → y ≡ cond t x y
-skip x y true e = absurd (false≢true (sym e))
-skip x y false e = refl
+pub worth_some : (b : ℕ) → worth_of b < 16 → digit_value b < 16
+unfolding worth_of
+worth_some b = grind (arith, nat_tests)
 
-module _ (b : ℕ) where
-  pub worth_figure : in_range 48 57 b ≡ true → b - 48 ≡ worth_of b
-  unfolding worth_of
-  worth_figure e = pick (b - 48) _ (in_range 48 57 b) e
+pub hex_below : (b : ℕ) → digit_value b < 16 → worth_of b < 16
+unfolding worth_of
+hex_below b = grind (arith, nat_tests)
 
-  pub worth_capital : in_range 48 57 b ≡ false → in_range 65 70 b ≡ true → b - 55 ≡ worth_of b
-  unfolding worth_of
-  worth_capital n e = pick (b - 55) _ (in_range 65 70 b) e ∙ skip (b - 48) _ (in_range 48 57 b) n
+pub hex_digit : (b : ℕ) → is_ascii_hexdigit b ≡ true → worth_of b < 16
+unfolding worth_of
+hex_digit b = grind (arith, nat_tests)
 
-  pub worth_small : in_range 48 57 b ≡ false → in_range 65 70 b ≡ false → in_range 97 102 b ≡ true → b - 87 ≡ worth_of b
-  unfolding worth_of
-  worth_small n m e = pick (b - 87) _ (in_range 97 102 b) e ∙ skip (b - 55) _ (in_range 65 70 b) m ∙ skip (b - 48) _ (in_range 48 57 b) n
+pub digit_hex : (b : ℕ) → worth_of b < 16 → is_ascii_hexdigit b ≡ true
+unfolding worth_of
+digit_hex b = grind (arith, nat_tests)
 
-  pub worth_none : in_range 48 57 b ≡ false → in_range 65 70 b ≡ false → in_range 97 102 b ≡ false → 16 ≡ worth_of b
-  unfolding worth_of
-  worth_none n m k = skip (b - 87) 16 (in_range 97 102 b) k ∙ skip (b - 55) _ (in_range 65 70 b) m ∙ skip (b - 48) _ (in_range 48 57 b) n
+pub hex_word : (s : List ℕ) → list_all is_ascii_hexdigit s ≡ true → HexDigits s
+hex_word [] e = tt
+hex_word (b ∷ s) e = let p = and_parts (is_ascii_hexdigit b) (list_all is_ascii_hexdigit s) e in (hex_digit b p.0, hex_word s p.1)
+
+pub word_hex : (s : List ℕ) → HexDigits s → list_all is_ascii_hexdigit s ≡ true
+word_hex [] h = refl
+word_hex (b ∷ s) h = rw (digit_hex b h.0, word_hex s h.1)
 
 -- ---- a text that was read stands within the room
-pub text_fits : (word room exit : List ℕ) (r : Text) (n : ℕ) → r ≡ Bytes n → TextReads word room exit r → n ≤ length room
+pub text_fits : (word room exit : List ℕ) (r : Option ℕ) (n : ℕ) → r ≡ Some n → TextReads word room exit r → n ≤ length room
 text_fits word room exit r n e h = (subst (TextReads word room exit) e h).2

@@ -1,10 +1,8 @@
 -- Numbers as words: "an optional minus and 1 to 10 digits" that "fits 32 bits signed".
 -- `Reads word r` is all that is promised of the answer r to a word.
-use Rattle.std.specs.Prelude.{ℕ, ◌≤◌, ◌≡◌, List, ◌∷◌, length, ℤ, pos, neg_ℤ}
+use Rattle.std.specs.Prelude.{ℕ, ◌≤◌, ◌≡◌, List, ◌∷◌, length, ℤ, pos, neg_ℤ, Option, Some, None}
 use Rattle.ints.specs.Bounds.{In}
 use Rattle.text_digits.specs.Decimal.{Digits, number}
-use Rattle.text_number.specs.declared.Number.{Number}
-use Rattle.text_number.specs.declared.Number.TheVariants.{Value, Bad}
 
 -- "1 to 10 digits"
 pub record Figures (word : List ℕ) : Type 0 where
@@ -22,6 +20,6 @@ abbrev pub Fits : ℤ → Type 0
 Fits = In 2147483648 2147483647
 
 -- the number that the word names and that fits, or that there is none
-abbrev pub Reads : List ℕ → Number → Type 0
-Reads word (Value v) = Spells word v × Fits v
-Reads word Bad = (v : ℤ) → Spells word v → Fits v → ⊥
+abbrev pub Reads : List ℕ → Option ℤ → Type 0
+Reads word (Some v) = Spells word v × Fits v
+Reads word None = (v : ℤ) → Spells word v → Fits v → ⊥

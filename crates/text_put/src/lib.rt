@@ -9,18 +9,12 @@ ghost use Rattle.text_put.specs.Print.{Put, PutNumber, PutHex};
 pub fn put(room: &mut [u8], at: usize, text: &[u8]) -> usize
     ensures { Put room.old at text.now room.new result }
 {
-    if room.len() < at {
+    if room.len() < at || room.len() - at < text.len() {
         return at;
     }
-    if room.len() - at < text.len() {
-        return at;
-    }
-    let mut i: usize = 0;
-    while i < text.len() {
-        room[at + i] = text[i];
-        i += 1;
-    }
-    at + i
+    let end = at + text.len();
+    room[at..end].copy_from_slice(text);
+    end
 }
 
 // Puts a number in decimal, behind a minus where it is below zero.
@@ -29,34 +23,30 @@ pub fn put_number(room: &mut [u8], at: usize, n: i64) -> usize
 {
     let mut digits = [0u8; 20];
     let k = io::decimal(magnitude(n), &mut digits);
+    let text = &digits[..k];
     if n < 0 {
-        return put_minus(room, at, &digits[..k]);
+        put_minus(room, at, text)
+    } else {
+        put(room, at, text)
     }
-    put(room, at, &digits[..k])
 }
 
 // Puts a minus and a text.
 fn put_minus(room: &mut [u8], at: usize, text: &[u8]) -> usize
     ensures { Put room.old at (45 ∷ text.now) room.new result }
 {
-    if room.len() <= at {
-        return at;
-    }
-    if room.len() - at <= text.len() {
+    if room.len() <= at || room.len() - at <= text.len() {
         return at;
     }
     room[at] = b'-';
     put(room, at + 1, text)
 }
 
-// A number without its sign. The lowest one has no counterpart above zero, so one is added before the sign is turned and after.
+// A number without its sign. The lowest one has no counterpart above zero, and has one here.
 pub fn magnitude(n: i64) -> u64
     ensures { result ≡ nat_abs n }
 {
-    if n < 0 {
-        return (0 - (n + 1)) as u64 + 1;
-    }
-    n as u64
+    n.unsigned_abs()
 }
 
 // Puts a number in hex, with zeros in front up to `width` digits.
@@ -64,6 +54,6 @@ pub fn put_hex(room: &mut [u8], at: usize, n: u32, width: usize) -> usize
     ensures { PutHex room.old at n width room.new result }
 {
     let mut digits = [0u8; 16];
-    let k = io::hex(n as u64, width, &mut digits);
+    let k = io::hex(u64::from(n), width, &mut digits);
     put(room, at, &digits[..k])
 }

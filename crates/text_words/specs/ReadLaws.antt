@@ -1,15 +1,12 @@
 -- Laws of a run of numbers: `Done` is what stands at each word, with each way to go on from there.
 -- Two answers that are allowed for one text and room are equal (`listed_once`).
-use Rattle.std.specs.Prelude.{ℕ, suc, ◌≤◌, ◌<◌, ◌+◌, ◌-◌, ◌≡◌, refl, List, [], ◌∷◌, ◌++◌, ◌⊎◌, ℤ, length, get_or, drop, set}
+use Rattle.std.specs.Prelude.{ℕ, suc, ◌≤◌, ◌<◌, ◌+◌, ◌-◌, ◌≡◌, refl, List, [], ◌∷◌, ◌++◌, ◌⊎◌, ℤ, length, get_or, drop, set, Option, Some, None}
 use Rattle.std.proofs.Common.{sym, ap, ap₂, ◌∙◌, subst, inl, inr, add-one, arith, length-append, length-drop, drop-cons}
 use Rattle.std.proofs.lemmas.List.{set_at}
 use Rattle.std.proofs.Math.Seq.{append_snoc}
 use Rattle.text_number.specs.Numbers.{Reads}
 use Rattle.text_number.specs.NumberLaws.{spells_once}
 use Rattle.text_words.specs.Words.{words_of, AreNumbers, filled, Stuck, Listed}
-use Rattle.text_number.specs.declared.Number.TheVariants.{Value, Bad}
-use Rattle.text_words.specs.declared.Count.{Count}
-use Rattle.text_words.specs.declared.Count.TheVariants.{Numbers, Bad as Failed}
 
 -- the words before `left` are n numbers, and they stand in the room
 pub record Done (text left : List ℕ) (room now : List ℤ) (n : ℕ) : Type 0 where
@@ -24,7 +21,7 @@ pub record Done (text left : List ℕ) (room now : List ℤ) (n : ℕ) : Type 0 
 pub done_none : (text : List ℕ) (room : List ℤ) → Done text text room room 0
 done_none text room = record { words = []; values = []; cut = refl; numbers = tt; count = refl; fits = omega arith; is = refl }
 
-numbers_snoc : (ws : List (List ℕ)) (vs : List ℤ) (w : List ℕ) (v : ℤ) → AreNumbers ws vs → Reads w (Value v) → AreNumbers (ws ++ (w ∷ [])) (vs ++ (v ∷ []))
+numbers_snoc : (ws : List (List ℕ)) (vs : List ℤ) (w : List ℕ) (v : ℤ) → AreNumbers ws vs → Reads w (Some v) → AreNumbers (ws ++ (w ∷ [])) (vs ++ (v ∷ []))
 numbers_snoc [] [] w v h r = (r, tt)
 numbers_snoc [] (x ∷ vs) w v h r = absurd h
 numbers_snoc (u ∷ ws) [] w v h r = absurd h
@@ -42,7 +39,7 @@ module _ {text left : List ℕ} {room now : List ℤ} {n : ℕ} (d : Done text l
   pub done_length : length now ≡ length room
   done_length = ap length d.is ∙ omega (arith, length-append d.values (drop (length d.values) room), length-drop (length d.values) room, d.count, d.fits)
 
-  stuck_at : (next : List ℕ) (rest : List (List ℕ)) → words_of left ≡ next ∷ rest → Reads next Bad ⊎ (n ≡ length room) → Stuck text room now
+  stuck_at : (next : List ℕ) (rest : List (List ℕ)) → words_of left ≡ next ∷ rest → Reads next None ⊎ (n ≡ length room) → Stuck text room now
   stuck_at next rest e s = record {
     words = d.words;
     values = d.values;
@@ -55,11 +52,11 @@ module _ {text left : List ℕ} {room now : List ℤ} {n : ℕ} (d : Done text l
     stuck = full s;
   }
     where
-      full : Reads next Bad ⊎ (n ≡ length room) → Reads next Bad ⊎ (length d.values ≡ length room)
+      full : Reads next None ⊎ (n ≡ length room) → Reads next None ⊎ (length d.values ≡ length room)
       full (inl b) = inl b
       full (inr e) = inr (sym d.count ∙ e)
 
-  pub done_bad : (next : List ℕ) (rest : List (List ℕ)) → words_of left ≡ next ∷ rest → Reads next Bad → Stuck text room now
+  pub done_bad : (next : List ℕ) (rest : List (List ℕ)) → words_of left ≡ next ∷ rest → Reads next None → Stuck text room now
   done_bad next rest e b = stuck_at next rest e (inl b)
 
   pub done_full : (next : List ℕ) (rest : List (List ℕ)) → words_of left ≡ next ∷ rest → length room ≤ n → Stuck text room now
@@ -74,7 +71,7 @@ module _ {text left : List ℕ} {room now : List ℤ} {n : ℕ} (d : Done text l
   more_count : (v : ℤ) → n + 1 ≡ length (d.values ++ (v ∷ []))
   more_count v = omega (arith, d.count, length-append d.values (v ∷ []))
 
-  pub done_more : (next after : List ℕ) (v : ℤ) → words_of left ≡ next ∷ words_of after → Reads next (Value v) → n < length room → Done text after room (set now n v) (n + 1)
+  pub done_more : (next after : List ℕ) (v : ℤ) → words_of left ≡ next ∷ words_of after → Reads next (Some v) → n < length room → Done text after room (set now n v) (n + 1)
   done_more next after v e r h = record {
     words = d.words ++ (next ∷ []);
     values = d.values ++ (v ∷ []);
@@ -85,7 +82,7 @@ module _ {text left : List ℕ} {room now : List ℤ} {n : ℕ} (d : Done text l
     is = more-is v h;
   }
 
-  pub done_last : (next : List ℕ) (v : ℤ) → words_of left ≡ next ∷ [] → Reads next (Value v) → n < length room → Listed text room (set now n v) (Numbers (n + 1))
+  pub done_last : (next : List ℕ) (v : ℤ) → words_of left ≡ next ∷ [] → Reads next (Some v) → n < length room → Listed text room (set now n v) (Some (n + 1))
   done_last next v e r h = (
     d.values ++ (v ∷ []),
     subst (λ (l : List (List ℕ)). AreNumbers l (d.values ++ (v ∷ []))) (sym (d.cut ∙ ap (λ (l : List (List ℕ)). d.words ++ l) e)) (numbers_snoc d.words d.values next v d.numbers r),
@@ -96,9 +93,9 @@ module _ {text left : List ℕ} {room now : List ℤ} {n : ℕ} (d : Done text l
 
 -- ---- one answer: where a run of numbers stops, another does not go on
 abbrev StopsAt : List ℕ → ℕ → ℕ → Type 0
-StopsAt next k room = Reads next Bad ⊎ (k ≡ room)
+StopsAt next k room = Reads next None ⊎ (k ≡ room)
 
-goes_on : (next : List ℕ) (room : ℕ) (v : ℤ) → StopsAt next 0 room → Reads next (Value v) → 0 < room → ⊥
+goes_on : (next : List ℕ) (room : ℕ) (v : ℤ) → StopsAt next 0 room → Reads next (Some v) → 0 < room → ⊥
 goes_on next room v (inl b) r h = b v r.0 r.1
 goes_on next room v (inr e) r h = omega arith
 
@@ -108,7 +105,7 @@ stopped n m r s [] (x ∷ xs) room h f e t = absurd h
 stopped n m r s (u ∷ us) [] room h f e t = absurd h
 stopped n m r s (u ∷ us) (x ∷ xs) room h f e t =
     let k : n ≡ u = cc in
-    absurd (goes_on n room x t (subst (λ (w : List ℕ). Reads w (Value x)) (sym k) h.0) (omega arith))
+    absurd (goes_on n room x t (subst (λ (w : List ℕ). Reads w (Some x)) (sym k) h.0) (omega arith))
 
 pred_stops : (next : List ℕ) (k room : ℕ) → StopsAt next (suc k) room → StopsAt next k (room - 1)
 pred_stops next k room (inl b) = inl b
@@ -126,7 +123,7 @@ module _ (n m : List ℕ) (r s : List (List ℕ)) where
   same_run room (w ∷ ws) (u ∷ us) (v ∷ vs) (x ∷ xs) h g f k e t q =
       let i : u ≡ w = cc in
       let j : ws ++ n ∷ r ≡ us ++ m ∷ s = cc in
-      let a = spells_once h.0.0 (subst (λ (l : List ℕ). Reads l (Value x)) i g.0).0 in
+      let a = spells_once h.0.0 (subst (λ (l : List ℕ). Reads l (Some x)) i g.0).0 in
       ap₂ (λ (y : ℤ) (ys : List ℤ). y ∷ ys) a (same_run (room - 1) ws us vs xs h.1 g.1 (omega arith) (omega arith) j (pred_stops n (length vs) room t) (pred_stops m (length xs) room q))
 
 pub numbers_once : (ws : List (List ℕ)) (vs xs : List ℤ) → AreNumbers ws vs → AreNumbers ws xs → vs ≡ xs
@@ -143,7 +140,7 @@ module _ (m : List ℕ) (s : List (List ℕ)) where
   all_read room [] [] vs xs h g f e q = let z : ◌≡◌ {A = ℕ} 0 1 = cc in omega arith
   all_read room [] (u ∷ us) vs xs h g f e q = let z : ◌≡◌ {A = ℕ} 0 1 = cc in omega arith
   all_read room (w ∷ ws) us [] xs h g f e q = absurd h
-  all_read room (w ∷ ws) [] (v ∷ vs) [] h g f e q = let i : w ≡ m = cc in goes_on m room v q (subst (λ (l : List ℕ). Reads l (Value v)) i h.0) (omega arith)
+  all_read room (w ∷ ws) [] (v ∷ vs) [] h g f e q = let i : w ≡ m = cc in goes_on m room v q (subst (λ (l : List ℕ). Reads l (Some v)) i h.0) (omega arith)
   all_read room (w ∷ ws) [] (v ∷ vs) (x ∷ xs) h g f e q = g
   all_read room (w ∷ ws) (u ∷ us) (v ∷ vs) [] h g f e q = g
   all_read room (w ∷ ws) (u ∷ us) (v ∷ vs) (x ∷ xs) h g f e q =
@@ -153,13 +150,13 @@ module _ (m : List ℕ) (s : List (List ℕ)) where
 pub never_stuck : {text : List ℕ} {room exit : List ℤ} → Stuck text room exit → (values : List ℤ) → AreNumbers (words_of text) values → length values ≤ length room → ⊥
 never_stuck {text} {room} s values h f = all_read s.next s.rest (length room) (words_of text) s.words values s.values h s.numbers f s.cut s.stuck
 
-pub listed_once : (text : List ℕ) (room x y : List ℤ) (q r : Count) → Listed text room x q → Listed text room y r → (q ≡ r) × (x ≡ y)
-listed_once text room x y (Numbers m) (Numbers n) a b =
+pub listed_once : (text : List ℕ) (room x y : List ℤ) (q r : Option ℕ) → Listed text room x q → Listed text room y r → (q ≡ r) × (x ≡ y)
+listed_once text room x y (Some m) (Some n) a b =
     let e = numbers_once (words_of text) a.0 b.0 a.1 b.1 in
-    (ap Numbers (a.2 ∙ ap length e ∙ sym b.2), a.4 ∙ ap (λ (vs : List ℤ). filled vs room) e ∙ sym b.4)
-listed_once text room x y (Numbers m) Failed a b = absurd (never_stuck b a.0 a.1 (omega (arith, a.2, a.3)))
-listed_once text room x y Failed (Numbers n) a b = absurd (never_stuck a b.0 b.1 (omega (arith, b.2, b.3)))
-listed_once text room x y Failed Failed a b =
+    (ap Some (a.2 ∙ ap length e ∙ sym b.2), a.4 ∙ ap (λ (vs : List ℤ). filled vs room) e ∙ sym b.4)
+listed_once text room x y (Some m) None a b = absurd (never_stuck b a.0 a.1 (omega (arith, a.2, a.3)))
+listed_once text room x y None (Some n) a b = absurd (never_stuck a b.0 b.1 (omega (arith, b.2, b.3)))
+listed_once text room x y None None a b =
     let e = same_run a.next b.next a.rest b.rest (length room) a.words b.words a.values b.values a.numbers b.numbers a.fits b.fits (sym a.cut ∙ b.cut)
     a.stuck b.stuck in
     (refl, a.left ∙ ap (λ (vs : List ℤ). filled vs room) e ∙ sym b.left)

@@ -1,11 +1,8 @@
 -- A line's words: they "are separated by exactly one space" (docs/COMMANDS.md). The space is the byte 32.
 -- The line is cut at each space, so a double space and a space at either end leave an empty word.
-use Rattle.std.specs.Prelude.{ℕ, ◌≤◌, ◌≡◌, List, [], ◌∷◌, ◌++◌, ◌⊎◌, length, drop, ℤ}
+use Rattle.std.specs.Prelude.{ℕ, ◌≤◌, ◌≡◌, List, [], ◌∷◌, ◌++◌, ◌⊎◌, length, drop, ℤ, Option, Some, None}
 use Rattle.text_cut.specs.Cuts.{first_part, parts_of}
 use Rattle.text_number.specs.Numbers.{Reads}
-use Rattle.text_number.specs.declared.Number.TheVariants.{Value, Bad}
-use Rattle.text_words.specs.declared.Count.{Count}
-use Rattle.text_words.specs.declared.Count.TheVariants.{Numbers, Bad as Failed}
 
 -- the byte at which a line is cut into its words
 abbrev pub space_byte : ℕ
@@ -24,7 +21,7 @@ abbrev pub AreNumbers : List (List ℕ) → List ℤ → Type 0
 AreNumbers [] [] = Unit {0}
 AreNumbers [] (v ∷ vs) = ⊥
 AreNumbers (w ∷ ws) [] = ⊥
-AreNumbers (w ∷ ws) (v ∷ vs) = Reads w (Value v) × AreNumbers ws vs
+AreNumbers (w ∷ ws) (v ∷ vs) = Reads w (Some v) × AreNumbers ws vs
 
 -- the room with values in its first cells
 abbrev pub filled : List ℤ → List ℤ → List ℤ
@@ -40,10 +37,10 @@ pub record Stuck (text : List ℕ) (room exit : List ℤ) : Type 0 where
   pub numbers : AreNumbers words values
   pub fits : length values ≤ length room
   pub left : exit ≡ filled values room
-  pub stuck : Reads next Bad ⊎ (length values ≡ length room)
+  pub stuck : Reads next None ⊎ (length values ≡ length room)
 
 -- what is answered of a text, and left in the room: how many numbers its words are, or that it is stuck
-abbrev pub Listed : List ℕ → List ℤ → List ℤ → Count → Type 0
-Listed text room exit (Numbers n) =
+abbrev pub Listed : List ℕ → List ℤ → List ℤ → Option ℕ → Type 0
+Listed text room exit (Some n) =
     (values : List ℤ) × AreNumbers (words_of text) values × (n ≡ length values) × (n ≤ length room) × (exit ≡ filled values room)
-Listed text room exit Failed = Stuck text room exit
+Listed text room exit None = Stuck text room exit

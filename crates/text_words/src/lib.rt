@@ -5,14 +5,7 @@
 ghost use Rattle.std.specs.Prelude.{◌≡◌, ◌≤◌, ◌+◌, min, length, drop};
 ghost use Rattle.text_words.specs.Words.{first_word, Listed};
 
-use text_number::{Number, read_number};
-
-// How many numbers were read, or that a word is none or finds no room.
-#[derive(Drop)]
-pub enum Count {
-    Numbers(usize),
-    Bad,
-}
+use text_number::read_number;
 
 // Where the word ends that starts at a place: at the first space from there on, or at the line's end.
 pub fn word_end(line: &[u8], start: usize) -> usize
@@ -22,26 +15,25 @@ pub fn word_end(line: &[u8], start: usize) -> usize
     text_cut::part_end(line, start, b' ')
 }
 
-// The words from a place to the line's end, each of them a number, into the room's first cells.
-pub fn read_numbers(line: &[u8], start: usize, room: &mut [i32]) -> Count
+// The words from a place to the line's end, each of them a number, into the room's first cells: how many they are, if none is no number and
+// all find room.
+pub fn read_numbers(line: &[u8], start: usize, room: &mut [i32]) -> Option<usize>
     ensures { Listed (drop start line.now) room.old room.new result }
 {
     let mut at = start;
     let mut n: usize = 0;
     while at <= line.len() {
         let end = word_end(line, at);
-        let Number::Value(v) = read_number(&line[at..end]) else {
-            return Count::Bad;
-        };
+        let v = read_number(&line[at..end])?;
         if room.len() <= n {
-            return Count::Bad;
+            return None;
         }
         room[n] = v;
         n += 1;
         if end == line.len() {
-            return Count::Numbers(n);
+            return Some(n);
         }
         at = end + 1;
     }
-    Count::Bad
+    None
 }

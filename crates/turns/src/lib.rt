@@ -64,44 +64,40 @@ fn turn_at(turn: usize) -> Turn
 }
 
 // Which signed axis a turn puts on an axis.
+// Stays: the axis is a number, since every one above 1 is taken for z (`signed_axis` of specs/Turns); an enum would take fewer.
+#[tactic(auto, unfolding(crate::specs::Turns::signed_axis))]
 pub fn signed_axis(turn: usize, axis: usize) -> i8
     requires { turn < Limits.turns }
     ensures { result ≡ signed_axis turn axis }
 {
     let m = turn_at(turn);
-    if axis == 0 {
-        return m.x;
+    match axis {
+        0 => m.x,
+        1 => m.y,
+        _ => m.z,
     }
-    if axis == 1 {
-        return m.y;
-    }
-    m.z
 }
 
 // The coordinate that a signed axis names, its sign left aside.
 fn axis_of(k: i8, x: i32, y: i32, z: i32) -> i32
     ensures { result ≡ named_axis (nat_abs k) x y z }
 {
-    if k == 1 || k == -1 {
-        return x;
+    match k.unsigned_abs() {
+        1 => x,
+        2 => y,
+        _ => z,
     }
-    if k == 2 || k == -2 {
-        return y;
-    }
-    z
 }
 
 // The number of the axis that a signed axis names, counted from 0.
 pub fn axis_number(k: i8) -> usize
     ensures { result ≡ axis_number (nat_abs k) }
 {
-    if k == 1 || k == -1 {
-        return 0;
+    match k.unsigned_abs() {
+        1 => 0,
+        2 => 1,
+        _ => 2,
     }
-    if k == 2 || k == -2 {
-        return 1;
-    }
-    2
 }
 
 // The coordinate along a signed axis.
@@ -114,6 +110,7 @@ fn along_axis(k: i8, x: i32, y: i32, z: i32) -> i32
 }
 
 // One coordinate of a turned corner.
+#[tactic(auto, using(crate::specs::Range::turned_within), unfolding(crate::specs::Turns::turned_at))]
 fn turned_axis(turn: usize, axis: usize, x: i32, y: i32, z: i32) -> i32
     requires { Turnable turn x y z }
     ensures { (result ≡ turned_at turn axis x y z) × Within Limits.shape_reach result }
@@ -123,6 +120,7 @@ fn turned_axis(turn: usize, axis: usize, x: i32, y: i32, z: i32) -> i32
 }
 
 // One coordinate of a placed corner: the turned corner plus the offset.
+#[tactic(auto, using(crate::specs::Range::placed_within), unfolding(crate::specs::Turns::placed_at))]
 pub fn placed_axis(turn: usize, axis: usize, x: i32, y: i32, z: i32, offset: i32) -> i32
     requires { Turnable turn x y z × Within Limits.shape_reach offset }
     ensures { (result ≡ placed_at turn axis x y z offset) × Within Limits.placed_reach result }

@@ -7,9 +7,7 @@ use Rattle.std.proofs.Math.Decide.{dec_le, ℕ_discrete}
 use Rattle.limits.specs.Limits
 use Rattle.text_digits.specs.Decimal.{number}
 use Rattle.text_digits.specs.DecimalLaws.{both, digits?, leading}
-use Rattle.typed.specs.TypedLength.{CommaOrPoint, NeedlessZero}
-use Rattle.typed.specs.declared.Typed.{Typed}
-use Rattle.typed.specs.declared.Typed.TheVariants.{Steps, Refused}
+use Rattle.typed.specs.TypedLength.{CommaOrPoint, NeedlessZero, Typed, Steps, Refused}
 
 unfoldable pub separator? : (c : ℕ) → Dec (CommaOrPoint c)
 unfolding ℕ_discrete

@@ -12,10 +12,9 @@ use Rattle.std.proofs.Math.Seq.{drop-length}
 use Rattle.limits.specs.Limits
 use Rattle.text_digits.specs.Decimal.{Digits, number, Follows}
 use Rattle.text_digits.specs.DecimalLaws.{both, digits?, leading, leading_digits, leading_split, whole_leading, rest_follows}
-use Rattle.typed.specs.TypedLength.{CommaOrPoint, TypedAs, Hundredths, NotOfForm, RoundedUp, LengthAnswers}
+use Rattle.typed.specs.TypedLength.{CommaOrPoint, TypedAs, Hundredths, NotOfForm, RoundedUp, Steps, Refused, LengthAnswers}
 use Rattle.typed.specs.TypedLaws.{apart, hundredths_once}
 use Rattle.typed.specs.Reading.{separator?, Few, few?, Whole, whole?, judged, after_separator, after_whole, reading}
-use Rattle.typed.specs.declared.Typed.TheVariants.{Steps, Refused}
 
 form_answers : {text : List ℕ} → NotOfForm text → LengthAnswers text (Refused Limits.length_form)
 form_answers n = record { refusal = inl (n, refl); steps = λ z. absurd (omega arith); zeros = λ z. refl; named = omega arith }

@@ -6,9 +6,7 @@ use Rattle.limits.specs.Limits
 use Rattle.limits.proofs.LowestLaws.{lowest_once}
 use Rattle.text_digits.specs.Decimal.{Digit, value_in}
 use Rattle.text_digits.specs.DecimalLaws.{decimal_once}
-use Rattle.typed.specs.TypedLength.{CommaOrPoint, Hundredths, RoundedUp, LengthInSteps, number_of, refusals, LengthAnswers}
-use Rattle.typed.specs.declared.Typed.{Typed}
-use Rattle.typed.specs.declared.Typed.TheVariants.{Steps, Refused}
+use Rattle.typed.specs.TypedLength.{CommaOrPoint, Hundredths, RoundedUp, LengthInSteps, Typed, Steps, Refused, number_of, refusals, LengthAnswers}
 
 -- no separator is a digit
 pub apart : (c : ℕ) → CommaOrPoint c → Digit c → ⊥

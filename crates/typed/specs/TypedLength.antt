@@ -1,11 +1,11 @@
 -- Typed lengths, in the words of document 01, "Lengths that arrive as text or as floats", as request W1 amends them.
 -- `Answers text r` is all that is promised of the answer r to the text.
-use Rattle.std.specs.Prelude.{ℕ, ◌≤◌, ◌<◌, ◌+◌, ◌*◌, ◌≡◌, List, [], ◌∷◌, ◌⊎◌, length, get_or}
+use Rattle.std.specs.Prelude.{ℕ, ◌≤◌, ◌<◌, ◌+◌, ◌*◌, ◌≡◌, List, [], ◌∷◌, ◌⊎◌, length, get_or, Result, Ok, Err}
 use Rattle.limits.specs.Limits
-use Rattle.limits.specs.Lowest.{Refusal, Lowest, ◌when◌}
+use Rattle.limits.specs.Lowest.{Rule, Lowest, ◌when◌}
 use Rattle.text_digits.specs.Decimal.{Decimal, value_in}
-use Rattle.typed.specs.declared.Typed.{Typed}
-use Rattle.typed.specs.declared.Typed.TheVariants.{Steps, Refused}
+use Rattle.limits.specs.Refusals.{number_of as refusal_number}
+use Rattle.limits.specs.declared.Refusal.{Refusal}
 
 -- "one comma or point": the bytes 44 and 46. "Both separators mean the same."
 abbrev pub CommaOrPoint : ℕ → Type 0
@@ -48,6 +48,15 @@ pub record RoundedUp (n d s : ℕ) : Type 0 where
 abbrev pub LengthInSteps : List ℕ → ℕ → Type 0
 LengthInSteps text s = (h : ℕ) × Hundredths text h × RoundedUp (h * Limits.steps) 100 s
 
+-- document 01's answer to a text: steps, or the number of a refusal; and which of them the result is
+pub data Typed : Type 0 where
+  Steps : ℕ → Typed
+  Refused : ℕ → Typed
+
+abbrev pub typed_of : Result ℕ Refusal → Typed
+typed_of (Ok s) = Steps s
+typed_of (Err r) = Refused (refusal_number r)
+
 -- document 01's number of an answer, 0 where it is done, and its steps, which are zero on a refusal
 abbrev pub number_of : Typed → ℕ
 number_of (Steps s) = 0
@@ -63,7 +72,7 @@ Named (Steps s) = Unit {0}
 Named (Refused n) = 0 < n
 
 -- the refusals of a typed length, in the order that decides
-abbrev pub refusals : List ℕ → List Refusal
+abbrev pub refusals : List ℕ → List Rule
 refusals text = Limits.length_form when NotOfForm text ∷ Limits.length_range when OverRange text ∷ []
 
 -- the answer to a text: the lowest refusal that applies; where none does, the steps; else "Every other value in the answer is zero"

@@ -9,8 +9,7 @@ use Rattle.space.specs.Verdicts.{Piece, separate}
 use Rattle.space.proofs.ExclusionLaws.{verdict_once}
 use Rattle.verdict_walk.specs.NoPairs.{no_pair, no_pairs}
 use Rattle.verdict_walk.specs.GatherLaws.{none_at}
-use Rattle.verdict.specs.declared.Answer.{Answer}
-use Rattle.verdict.specs.Answers.{refusals, nothing, Carries, Answers, OneAnswer}
+use Rattle.verdict.specs.Answers.{Answer, refusals, nothing, Carries, Answers, OneAnswer}
 
 -- an answer carries no more than four pairs
 pub carries_few : {g : ℕ} {A B : Piece} {r : Answer} → Carries g A B r → r.count ≤ 4

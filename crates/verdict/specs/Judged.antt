@@ -1,6 +1,6 @@
 -- From the ends of the two walks to the verdict and what it carries.
 -- Strict walk: separate, or a meeting; then the weak walk: touching, or penetrating. Both walk the thick set where the difference is flat.
-use Rattle.std.specs.Prelude.{◌≡◌, refl, List, [], ◌∷◌, Bool, true, false, ◌⊎◌, ℕ, ◌+◌, ◌≤◌, T, length, take, get_or, ℤ, pos, neg_ℤ, nat_abs, ◌+ℤ◌, ◌-ℤ◌, ◌*ℤ◌, ◌≤ℤ◌, ◌<ℤ◌}
+use Rattle.std.specs.Prelude.{◌≡◌, refl, [], ◌∷◌, Bool, true, false, ◌⊎◌, ℕ, ◌+◌, ◌≤◌, T, length, take, get_or, ℤ, pos, neg_ℤ, nat_abs, ◌+ℤ◌, ◌-ℤ◌, ◌*ℤ◌, ◌≤ℤ◌, ◌<ℤ◌}
 use Rattle.std.proofs.Common.{sym, ap, ◌∙◌, subst, inl, inr, ⊎_elim, arith, length-take}
 use Rattle.std.proofs.Math.IntN.{*ℤ-zero, +ℤ_idl}
 use Rattle.std.specs.Int.Signed.{clash_ℤ}
@@ -13,13 +13,13 @@ use Rattle.ints.proofs.Known.{known}
 use Rattle.ints.specs.Sign.{Under}
 use Rattle.ints.proofs.SignLaws.{gt_other}
 use Rattle.limits.specs.Decides.{Decides}
-use Rattle.limits.specs.Limits.{weight_most, direction_reach, placed_reach, placed_range, list_length, gap_most, gap_refused}
+use Rattle.limits.specs.Limits.{done, weight_most, direction_reach, placed_reach, placed_range, list_length, gap_most, gap_refused}
 use Rattle.limits.specs.Lowest.{Lowest}
 use Rattle.space.specs.declared.Vec3.{Vec3}
 use Rattle.space.specs.declared.Pair.{Pair}
 use Rattle.space.specs.Vectors.{dot, minus, det, env1, origin}
 use Rattle.space.specs.Ranges.{Upto, point_reach, shift_reach, weight_reach}
-use Rattle.space.specs.Verdicts.{Piece, corner_at, widened_at, Below, Supported, Balance, touching, penetrating}
+use Rattle.space.specs.Verdicts.{Piece, corner_at, widened_at, Below, Supported, Balance}
 use Rattle.space.specs.Lists.{LengthFits, InReach, Placed}
 use Rattle.verdict_portal.specs.declared.Three.{Three}
 use Rattle.verdict_portal.specs.Portal.{ZeroSum, cramer}
@@ -28,11 +28,10 @@ use Rattle.verdict_portal.specs.Round.{Setting, PortalHeld, Met}
 use Rattle.verdict_portal.specs.Exits.{sum3, w1, w2, e1}
 use Rattle.verdict_portal.specs.Flat.{Drops, f4}
 use Rattle.verdict_walk.specs.declared.support.Difference.{Difference}
-use Rattle.verdict_walk.specs.declared.path.Portal.{Portal}
 use Rattle.verdict_walk.specs.declared.path.Ended.{Ended}
 use Rattle.verdict_frame.specs.declared.frame.Frame.{Frame}
-use Rattle.verdict_walk.specs.declared.gather.Gathered.{Gathered}
-use Rattle.verdict_walk.specs.NoPairs.{no_pair, no_pairs}
+use Rattle.space.specs.declared.Pairs.{Pairs}
+use Rattle.verdict_walk.specs.NoPairs.{no_pair}
 use Rattle.verdict_walk.specs.Points.{Tagged}
 use Rattle.verdict_walk.specs.PointLaws.{spread_of, below_of, supported_of}
 use Rattle.verdict_walk.specs.Ends.{Ground, Begun, Walked, Corners, Near}
@@ -41,8 +40,9 @@ use Rattle.verdict_frame.specs.Frames.{Framed, Dropping, frame_places, FirstPort
 use Rattle.verdict_frame.specs.FrameLaws.{origin_upto, walled_of}
 use Rattle.verdict_walk.specs.Gather.{base_of, Gather, Weighed}
 use Rattle.verdict_walk.specs.GatherLaws.{weight_within, minus_within, none_at, named_same, gather_none, gather_more, count_grows, FourWeigh, four_weigh}
-use Rattle.verdict.specs.declared.Answer.{Answer}
-use Rattle.verdict.specs.Answers.{refusals, nothing, BadLength, OutOfReach, GapFits, Carries, Answers}
+use Rattle.verdict.specs.declared.witnessed.Verdict.{Verdict}
+use Rattle.verdict.specs.declared.witnessed.Verdict.TheVariants.{Separate, Touching, Penetrating}
+use Rattle.verdict.specs.Answers.{refusals, nothing, answer_with, BadLength, OutOfReach, GapFits, Carries, Answers}
 
 -- what is not negative and not 0 is positive
 above_zero : {w : ℤ} → pos 0 ≤ℤ w → (w ≡ pos 0 → ⊥) → pos 0 <ℤ w
@@ -53,7 +53,7 @@ module _ {gap : ℕ} {A B : Piece} {f : Frame} (pa : Placed A) (pb : Placed B) (
   pub grounded : Ground A B f.widths
   grounded = record { first = pa; second = pb; box = k.box }
 
-  pub frame_corners : {v : Three} → v ≡ frame_places f → Corners v
+  pub frame_corners : {v : Three Vec3} → v ≡ frame_places f → Corners v
   frame_corners e = subst Corners (sym e) (record { ina = point_upto grounded k.ofa; inb = point_upto grounded k.ofb; inc = point_upto grounded k.ofc })
 
   cs : Corners (frame_places f)
@@ -62,7 +62,7 @@ module _ {gap : ℕ} {A B : Piece} {f : Frame} (pa : Placed A) (pb : Placed B) (
   set_at : (q : Vec3) → Upto shift_reach q → Setting q f.a.at f.b.at f.c.at
   set_at q u = record { inq = u; in1 = cs.ina; in2 = cs.inb; in3 = cs.inc; free = k.free }
 
-  pub begun_strict : {q : Vec3} {v : Three} {t : Portal} → q ≡ origin → v ≡ frame_places f → FirstPortal f t → Begun A B f.widths q v t
+  pub begun_strict : {q : Vec3} {v : Three Vec3} {t : Three Difference} → q ≡ origin → v ≡ frame_places f → FirstPortal f t → Begun A B f.widths q v t
   begun_strict {q} {v} {t} eq ev s = subst (λ w. Begun A B f.widths w v t) (sym eq) (subst (λ w. Begun A B f.widths origin w t) (sym ev) (⊎_elim
       (λ h. subst (Begun A B f.widths origin (frame_places f)) (sym h.1) (first h.0))
       (λ h. subst (Begun A B f.widths origin (frame_places f)) (sym h.1) (second (above_zero h.0 k.free))) s))
@@ -95,7 +95,7 @@ module _ {gap : ℕ} {A B : Piece} {f : Frame} (pa : Placed A) (pb : Placed B) (
       }
 
   -- the strict walk's end, with what it began with put in
-  pub strict : {q : Vec3} {v : Three} {e : Ended} → q ≡ origin → v ≡ frame_places f → Walked A B f.widths q v e → Walked A B f.widths origin (frame_places f) e
+  pub strict : {q : Vec3} {v : Three Vec3} {e : Ended} → q ≡ origin → v ≡ frame_places f → Walked A B f.widths q v e → Walked A B f.widths origin (frame_places f) e
   strict {q} {v} {e} eq ev w = subst (λ u. Walked A B f.widths u (frame_places f) e) eq (subst (λ u. Walked A B f.widths q u e) ev w)
 
   sum_upto : Upto shift_reach (sum3 f.a.at f.b.at f.c.at)
@@ -104,7 +104,7 @@ module _ {gap : ℕ} {A B : Piece} {f : Frame} (pa : Placed A) (pb : Placed B) (
       go : (a b c : Vec3) → Upto point_reach a → Upto point_reach b → Upto point_reach c → Upto shift_reach (sum3 a b c)
       go a b c u v w = record { ux = within (search known depth 9) tt; uy = within (search known depth 9) tt; uz = within (search known depth 9) tt }
 
-  pub begun_weak : {q : Vec3} {v : Three} {e : Ended} → q ≡ sum3 f.a.at f.b.at f.c.at → v ≡ frame_places f → Walked A B f.widths origin (frame_places f) e
+  pub begun_weak : {q : Vec3} {v : Three Vec3} {e : Ended} → q ≡ sum3 f.a.at f.b.at f.c.at → v ≡ frame_places f → Walked A B f.widths origin (frame_places f) e
       → Begun A B f.widths q v e.portal
   begun_weak {q} {v} {e} eq ev w = subst (λ u. Begun A B f.widths u v e.portal) (sym eq) (subst (λ u. Begun A B f.widths (sum3 f.a.at f.b.at f.c.at) u e.portal) (sym ev)
       (let h = w.begun.held in
@@ -146,14 +146,14 @@ drops {gap} {A} {B} {g} {p} d t =
     (subst (λ v. Drops d.k d.r1 d.r2 d.r3 v (minus (widened_at gap A p.first p.cube) (corner_at B p.second))) (sym t.is)
     (d.drop p.first p.cube p.second t.of_first t.of_cube t.of_second))
 
-pub record Weights (gap : ℕ) (A B : Piece) (r : Gathered) : Type 0 where
+pub record Weights (gap : ℕ) (A B : Piece) (r : Pairs) : Type 0 where
   pub counted : (1 ≤ r.count) × (r.count ≤ 4)
   pub balance : Balance gap A B (take r.count r.pairs)
   pub four : length r.pairs ≡ 4
   pub rest : (k : ℕ) → r.count ≤ k → get_or r.pairs k no_pair ≡ no_pair
   pub uncubed : gap ≡ 0 → (k : ℕ) → (get_or r.pairs k no_pair).cube ≡ 0
 
-pub weights : {gap : ℕ} {A B : Piece} {f : Frame} {e : Ended} {r : Gathered} (pa : Placed A) (pb : Placed B) (k : Framed gap A B f) → Walked A B f.widths origin (frame_places f) e → e.met ≡ true
+pub weights : {gap : ℕ} {A B : Piece} {f : Frame} {e : Ended} {r : Pairs} (pa : Placed A) (pb : Placed B) (k : Framed gap A B f) → Walked A B f.widths origin (frame_places f) e → e.met ≡ true
     → Weighed gap e r → Weights gap A B r
 weights {gap} {A} {B} {f} {e} {r} pa pb k w t h = record {
   counted = (counted, g4.few);
@@ -256,10 +256,7 @@ weights {gap} {A} {B} {f} {e} {r} pa pb k w t h = record {
     few = let l = length-take r.count r.pairs in let z = g4.size in omega arith
 
 -- ---- the answers
-abbrev pub meeting_with : ℕ → Vec3 → Gathered → Answer
-meeting_with v d g = record { number = 0; verdict = v; direction = d; count = g.count; pairs = g.pairs }
-
-pub carries_separate : {gap : ℕ} {A B : Piece} {n : Vec3} → Below n gap A B → Upto direction_reach n → Carries gap A B (record { number = 0; verdict = 1; direction = n; count = 0; pairs = no_pairs })
+pub carries_separate : {gap : ℕ} {A B : Piece} {n : Vec3} → Below n gap A B → Upto direction_reach n → Carries gap A B (answer_with (Separate n))
 carries_separate {n} h u = record {
   right = inl (refl, record { direction = n; parts = h });
   small = u;
@@ -274,7 +271,7 @@ carries_separate {n} h u = record {
   uncubed = λ _ k. ap (λ (p : Pair). p.cube) (none_at k);
 }
 
-pub carries_touching : {gap : ℕ} {A B : Piece} {d : Vec3} {g : Gathered} → Supported d gap A B → Upto direction_reach d → Weights gap A B g → Carries gap A B (meeting_with touching d g)
+pub carries_touching : {gap : ℕ} {A B : Piece} {d : Vec3} {g : Pairs} → Supported d gap A B → Upto direction_reach d → Weights gap A B g → Carries gap A B (answer_with (Touching d g))
 carries_touching {d} {g} h u w = record {
   right = inr (inl (refl, record { meeting = record { pairs = take g.count g.pairs; balance = w.balance }; direction = d; supported = h }));
   small = u;
@@ -289,7 +286,7 @@ carries_touching {d} {g} h u w = record {
   uncubed = w.uncubed;
 }
 
-pub carries_penetrating : {gap : ℕ} {A B : Piece} {g : Gathered} → ((d : Vec3) → Supported d gap A B → ⊥) → Weights gap A B g → Carries gap A B (meeting_with penetrating origin g)
+pub carries_penetrating : {gap : ℕ} {A B : Piece} {g : Pairs} → ((d : Vec3) → Supported d gap A B → ⊥) → Weights gap A B g → Carries gap A B (answer_with (Penetrating g))
 carries_penetrating {g} h w = record {
   right = inr (inr (refl, record { meeting = record { pairs = take g.count g.pairs; balance = w.balance }; free = h }));
   small = origin_upto direction_reach;
@@ -305,7 +302,7 @@ carries_penetrating {g} h w = record {
 }
 
 -- ---- E1: where four points weigh something
-pub penetrating_at_once : {gap : ℕ} {A B : Piece} {f : Frame} {e : Ended} {r : Gathered} (k : Framed gap A B f) → Walked A B f.widths origin (frame_places f) e → e.met ≡ true → Weighed gap e r
+pub penetrating_at_once : {gap : ℕ} {A B : Piece} {f : Frame} {e : Ended} {r : Pairs} (k : Framed gap A B f) → Walked A B f.widths origin (frame_places f) e → e.met ≡ true → Weighed gap e r
     → r.count ≡ 4 → (d : Vec3) → Supported d gap A B → ⊥
 penetrating_at_once {gap} {A} {B} {f} {e} k w t h n d s =
     e1 (spread_of w.last) (spread_of w.begun.ofa) (spread_of w.begun.ofb) (spread_of w.begun.ofc) (plain a b c f.a.at f.b.at f.c.at w.begun.held.inv).hp
@@ -328,7 +325,7 @@ penetrating_at_once {gap} {A} {B} {f} {e} k w t h n d s =
     four = four_weigh h n
 
 -- ---- the weak walk's ends
-module _ {gap : ℕ} {A B : Piece} {f : Frame} {q : Vec3} {v : Three} {e : Ended} (k : Framed gap A B f)
+module _ {gap : ℕ} {A B : Piece} {f : Frame} {q : Vec3} {v : Three Vec3} {e : Ended} (k : Framed gap A B f)
     (eq : q ≡ sum3 f.a.at f.b.at f.c.at) (ev : v ≡ frame_places f) (w : Walked A B f.widths q v e) where
   weak : Walked A B f.widths (sum3 f.a.at f.b.at f.c.at) (frame_places f) e
   weak = subst (λ u. Walked A B f.widths u (frame_places f) e) eq (subst (λ u. Walked A B f.widths q u e) ev w)
@@ -391,30 +388,29 @@ gap_below {gap} h f = clash_ℤ h (subst (λ z. pos 0 ≤ℤ z) (sym f.natural) 
 pub gap_decided : {b : Bool} {gap : ℤ} → pos 0 ≤ℤ gap → Decides b (Within gap_most gap) → Decides b (GapFits gap)
 gap_decided h d = record { yes = λ t. record { natural = nat_of h; below = let k = (d.yes t).abs in omega arith }; no = λ f g. d.no f (record { abs = let k = g.below in omega arith }) }
 
-module _ {gap : ℤ} {A B : Piece} {r : Answer} where
-  -- a refused answer: its number, and every other value zero
-  refused_by : (n : ℕ) → (n ≡ 0 → ⊥) → Lowest (refusals gap A B) n → r ≡ nothing n → Answers gap A B r
-  refused_by n f h e =
-      let k = ap (λ (x : Answer). x.number) e in
-      record { refusal = subst (Lowest (refusals gap A B)) (sym k) h; zeros = λ _. e ∙ ap nothing (sym k); carries = λ z. absurd (f (sym k ∙ z)) }
+-- an answer with a verdict is not refused
+pub not_refused : (v : Verdict) → (answer_with v).number ≡ done
+not_refused (Separate d) = refl
+not_refused (Touching d p) = refl
+not_refused (Penetrating p) = refl
 
-  pub answered_long : BadLength A B → r ≡ nothing list_length → Answers gap A B r
+module _ {gap : ℤ} {A B : Piece} where
+  -- a refused answer: its number, and every other value zero
+  refused_by : (n : ℕ) → (n ≡ done → ⊥) → Lowest (refusals gap A B) n → Answers gap A B (nothing n)
+  refused_by n f h = record { refusal = h; zeros = λ _. refl; carries = λ z. absurd (f z) }
+
+  pub answered_long : BadLength A B → Answers gap A B (nothing list_length)
   answered_long f = refused_by list_length (λ z. omega arith) (inl (f, refl))
 
-  pub answered_far : BothFit A B → OutOfReach A B → r ≡ nothing placed_range → Answers gap A B r
+  pub answered_far : BothFit A B → OutOfReach A B → Answers gap A B (nothing placed_range)
   answered_far f n = refused_by placed_range (λ z. omega arith) (inr (not_either f, inl (n, refl)))
 
-  pub answered_wide : BothFit A B → BothNear A B → (GapFits gap → ⊥) → r ≡ nothing gap_refused → Answers gap A B r
+  pub answered_wide : BothFit A B → BothNear A B → (GapFits gap → ⊥) → Answers gap A B (nothing gap_refused)
   answered_wide f n w = refused_by gap_refused (λ z. omega arith) (inr (not_either f, inr (not_either n, inl (w, refl))))
 
-  pub answered : {g : ℕ} → BothFit A B → BothNear A B → GapFits gap → g ≡ nat_abs gap → (r.number ≡ 0) × Carries g A B r → Answers gap A B r
-  answered f n w e c =
-      record { refusal = inr (not_either f, inr (not_either n, inr (λ h. h w, c.0))); zeros = λ g. absurd (g c.0); carries = λ _. subst (λ k. Carries k A B r) e c.1 }
-
-pub answer_eq : {n v k : ℕ} {d d' : Vec3} {ps ps' : List Pair} → d ≡ d' → ps ≡ ps'
-    → ◌≡◌ {A = Answer} (record { number = n; verdict = v; direction = d; count = k; pairs = ps }) (record { number = n; verdict = v; direction = d'; count = k; pairs = ps' })
-answer_eq {n} {v} {k} e f = λ i. record { number = n; verdict = v; direction = e i; count = k; pairs = f i }
-
--- the same verdict with an equal direction and equal pairs
-pub carries_is : {gap : ℕ} {A B : Piece} {q r : Answer} → q ≡ r → (r.number ≡ 0) × Carries gap A B r → (q.number ≡ 0) × Carries gap A B q
-carries_is {gap} {A} {B} e h = subst (λ r. (r.number ≡ 0) × Carries gap A B r) (sym e) h
+  pub answered : {g : ℕ} (v : Verdict) → BothFit A B → BothNear A B → GapFits gap → g ≡ nat_abs gap → Carries g A B (answer_with v) → Answers gap A B (answer_with v)
+  answered v f n w e c = record {
+    refusal = inr (not_either f, inr (not_either n, inr (λ h. h w, not_refused v)));
+    zeros = λ g. absurd (g (not_refused v));
+    carries = λ _. subst (λ k. Carries k A B (answer_with v)) e c;
+  }

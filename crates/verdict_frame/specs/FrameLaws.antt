@@ -1,6 +1,6 @@
 -- Laws of frames: each look of the scan, each kind of flat set, and that what is found starts a walk.
 -- The definitions stand in Frames.
-use Rattle.std.specs.Prelude.{◌≡◌, refl, [], ◌∷◌, Bool, true, false, ◌⊎◌, ℕ, zero, suc, ◌+◌, ◌-◌, ◌≤◌, ◌<◌, T, leb, eqb, ℤ, pos, negsuc, neg_ℤ, ◌+ℤ◌, ◌-ℤ◌, ◌*ℤ◌, ◌≤ℤ◌, ◌<ℤ◌}
+use Rattle.std.specs.Prelude.{◌≡◌, refl, [], ◌∷◌, Bool, true, false, ◌⊎◌, ℕ, ◌+◌, ◌-◌, ◌≤◌, ◌<◌, T, leb, eqb, ℤ, pos, negsuc, neg_ℤ, ◌+ℤ◌, ◌-ℤ◌, ◌*ℤ◌, ◌≤ℤ◌, ◌<ℤ◌}
 use Rattle.std.proofs.Common.{sym, ap, ap₂, ◌∙◌, subst, inl, inr, ⊎_elim, arith, leb→le, of_z, lt-ltb, le-ltb, eqb-true}
 use Rattle.std.specs.Int.{w64}
 use Rattle.std.specs.Int.Signed.{clash_ℤ, lt_z}
@@ -15,25 +15,25 @@ use Rattle.limits.specs.Limits.{gap_most}
 use Rattle.limits.specs.Decides.{Decides}
 use Rattle.limits.specs.DecidesLaws.{holds, fails}
 use Rattle.space.specs.declared.Vec3.{Vec3}
-use Rattle.space.specs.Vectors.{dot, cross, minus, plus, scale, det, env1, origin, opposite, vec_eq}
+use Rattle.space.specs.declared.Axis.{Axis}
+use Rattle.space.specs.declared.Axis.TheVariants.{X, Y, Z}
+use Rattle.space.specs.Vectors.{dot, cross, minus, plus, scale, det, env1, origin, opposite, vec_eq, unit, next_axis, coordinate}
 use Rattle.space.specs.Ranges.{Upto, normal_reach, upto_le}
 use Rattle.space.specs.Verdicts.{Piece, corner_count, corner_at, cube_corners, widened_at, Supported}
 use Rattle.space.proofs.NoGapLaws.{unwidened}
 use Rattle.space.specs.Lists.{Placed}
 use Rattle.verdict_portal.specs.declared.Three.{Three}
-use Rattle.verdict_portal.specs.Flat.{had, vec, ones, unit, next_axis, coordinate, axis, had_plus}
+use Rattle.verdict_portal.specs.Flat.{had, vec, ones, axis, had_plus}
 use Rattle.verdict_portal.specs.Flat.{f2_plane, f2_line, times_other, Drops, plane_row, drops_plane, drops_line, lifted, lifted_dot, square_pos}
 use Rattle.verdict_portal.specs.Exits.{Walled}
 use Rattle.verdict_portal.specs.Portal.{det_rot}
 use Rattle.verdict_walk.specs.declared.support.Difference.{Difference}
-use Rattle.verdict_walk.specs.declared.path.Portal.{Portal}
 use Rattle.verdict_frame.specs.declared.frame.Frame.{Frame}
-use Rattle.verdict_frame.specs.declared.frame.Found.{Found}
 use Rattle.verdict_walk.specs.Points.{sign_at, cube_signs, bit_of, cube_of, Spread, Tagged, Box, cube_widths, Signed}
 use Rattle.verdict_walk.specs.PointLaws.{some_corner, plain_at, corner_upto, spread_at, widened_spread, bit_below, bit_above, cube_inside, looking}
 use Rattle.verdict_portal.specs.Rounds.{zero_bits}
-use Rattle.verdict_frame.specs.Frames.{difference_at, Level, Rows, pick_left, pick_right, left_at, right_at, scanned, AllLevel, Sought, ScannedAt, Dropping, Framed, thick_of, Widened}
-use Rattle.verdict_frame.specs.Frames.{solid_frame, plane_frame, AxisOf, line_frame, line_rows, point_frame, unit_rows, OnLine, InPlane, plane_rows, Some, Wide, FirstPortal}
+use Rattle.verdict_frame.specs.Frames.{difference_at, Level, Rows, pick_left, pick_right, left_at, right_at, scanned, AllLevel, NotLevel, ScannedAt, Dropping, Framed, thick_of, Widened}
+use Rattle.verdict_frame.specs.Frames.{solid_frame, plane_frame, AxisOf, line_frame, line_rows, point_frame, unit_rows, OnLine, InPlane, plane_rows, OffPoint, Wide, FirstPortal}
 
 -- ---- the sizes of a sum and of a difference
 sum_within : {m n k : ℕ} {u v : ℤ} → T (leb (m + n) k) → Within m u → Within n v → Within k (u +ℤ v)
@@ -78,7 +78,7 @@ all_level : (A B : Piece) (n : Vec3) → ((i : ℕ) → i < corner_count A → d
 all_level A B n ha hb some i j hi hj = eq_comb (z_add (z_add (z_diff (pos 1) (ha i hi)) (z_diff (pos 1) (hb j hj))) (z_diff (negsuc 0) (ha 0 some)))
     (by_ring (env1 n (env1 (corner_at A 0) (env1 (corner_at B 0) (env1 (corner_at A i) (env1 (corner_at B j) []))))) (search sides depth 40) refl)
 
-pub scan_level : {rows : Three} {A B : Piece} → Placed A → Placed B → ((k : ℕ) → k < corner_count A + corner_count B → Level rows (scanned A B k)) → AllLevel rows A B
+pub scan_level : {rows : Three Vec3} {A B : Piece} → Placed A → Placed B → ((k : ℕ) → k < corner_count A + corner_count B → Level rows (scanned A B k)) → AllLevel rows A B
 scan_level {rows} {A} {B} pa pb h = record {
   all = λ i j hi hj. record {
     one = all_level A B rows.a (λ k l. (left k l).one) (λ k l. (right k l).one) (some_corner pa) i j hi hj;
@@ -97,12 +97,6 @@ scan_level {rows} {A} {B} pa pb h = record {
         (subst (λ b. Level rows (minus (corner_at A (pick_left b (corner_count A + j))) (corner_at B (pick_right b (corner_count A + j) (corner_count A)))))
         (le-ltb (corner_count A + j) (corner_count A) (omega arith)) (h (corner_count A + j) (omega arith)))
 
-pub sought_found : {rows : Three} {A B : Piece} {p : Difference} → Tagged A B origin p → (Level rows p.at → ⊥) → Sought rows A B (record { found = true; point = p })
-sought_found t f = record { tagged = λ _. t; apart = λ _. f; none = λ e. absurd (subst T e tt) }
-
-pub sought_none : {rows : Three} {A B : Piece} {p : Difference} → AllLevel rows A B → Sought rows A B (record { found = false; point = p })
-sought_none h = record { tagged = λ e. absurd (subst T (sym e) tt); apart = λ e. absurd (subst T (sym e) tt); none = λ _. h }
-
 pub scanned_at : {A B : Piece} {k i j : ℕ} {p : Difference} → Placed A → Placed B → k < corner_count A + corner_count B → i ≡ left_at k (corner_count A) → j ≡ right_at k (corner_count A)
     → p ≡ difference_at A B i j → ScannedAt A B k p
 scanned_at {A} {B} {k} {p} pa pb h ei ej e =
@@ -117,16 +111,16 @@ Corner g w = w ≡ had (cube_signs (cube_of w)) g
 thick_tagged : {A B : Piece} {g w : Vec3} {p : Difference} → Tagged A B origin p → Corner g w → Tagged A B g (thick_of p w)
 thick_tagged {w} t e = record { of_first = t.of_first; of_cube = cube_inside w; of_second = t.of_second; is = ap₂ plus (plain_tagged t) e }
 
-unit_corner : (j : ℕ) → Corner (unit j) (unit j) × Corner (unit j) (opposite (unit j))
-unit_corner zero = (refl, refl)
-unit_corner (suc zero) = (refl, refl)
-unit_corner (suc (suc j)) = (refl, refl)
+unit_corner : (j : Axis) → Corner (unit j) (unit j) × Corner (unit j) (opposite (unit j))
+unit_corner X = (refl, refl)
+unit_corner Y = (refl, refl)
+unit_corner Z = (refl, refl)
 
-two_corner : (j : ℕ) → Corner (plus (unit j) (unit (next_axis j))) (plus (unit j) (unit (next_axis j))) × Corner (plus (unit j) (unit (next_axis j))) (minus (unit (next_axis j)) (unit j)) ×
+two_corner : (j : Axis) → Corner (plus (unit j) (unit (next_axis j))) (plus (unit j) (unit (next_axis j))) × Corner (plus (unit j) (unit (next_axis j))) (minus (unit (next_axis j)) (unit j)) ×
     Corner (plus (unit j) (unit (next_axis j))) (minus (unit j) (unit (next_axis j)))
-two_corner zero = (refl, refl, refl)
-two_corner (suc zero) = (refl, refl, refl)
-two_corner (suc (suc j)) = (refl, refl, refl)
+two_corner X = (refl, refl, refl)
+two_corner Y = (refl, refl, refl)
+two_corner Z = (refl, refl, refl)
 
 bit_box : (x y z : ℕ) → Within gap_most (pos x) → Within gap_most (pos y) → Within gap_most (pos z) → Box (vec (pos x) (pos y) (pos z))
 bit_box x y z u v w = record { nn_x = nn_pos x; nn_y = nn_pos y; nn_z = nn_pos z; most = record { ux = u; uy = v; uz = w } }
@@ -134,15 +128,15 @@ bit_box x y z u v w = record { nn_x = nn_pos x; nn_y = nn_pos y; nn_z = nn_pos z
 small : (n : ℕ) → T (leb n gap_most) → Within gap_most (pos n)
 small n t = record { abs = leb→le n gap_most t }
 
-unit_box : (j : ℕ) → Box (unit j)
-unit_box zero = bit_box 1 0 0 (small 1 tt) (small 0 tt) (small 0 tt)
-unit_box (suc zero) = bit_box 0 1 0 (small 0 tt) (small 1 tt) (small 0 tt)
-unit_box (suc (suc j)) = bit_box 0 0 1 (small 0 tt) (small 0 tt) (small 1 tt)
+unit_box : (j : Axis) → Box (unit j)
+unit_box X = bit_box 1 0 0 (small 1 tt) (small 0 tt) (small 0 tt)
+unit_box Y = bit_box 0 1 0 (small 0 tt) (small 1 tt) (small 0 tt)
+unit_box Z = bit_box 0 0 1 (small 0 tt) (small 0 tt) (small 1 tt)
 
-two_box : (j : ℕ) → Box (plus (unit j) (unit (next_axis j)))
-two_box zero = bit_box 1 1 0 (small 1 tt) (small 1 tt) (small 0 tt)
-two_box (suc zero) = bit_box 0 1 1 (small 0 tt) (small 1 tt) (small 1 tt)
-two_box (suc (suc j)) = bit_box 1 0 1 (small 1 tt) (small 0 tt) (small 1 tt)
+two_box : (j : Axis) → Box (plus (unit j) (unit (next_axis j)))
+two_box X = bit_box 1 1 0 (small 1 tt) (small 1 tt) (small 0 tt)
+two_box Y = bit_box 0 1 1 (small 0 tt) (small 1 tt) (small 1 tt)
+two_box Z = bit_box 1 0 1 (small 1 tt) (small 0 tt) (small 1 tt)
 
 -- ---- W5: a direction of touching lifts to one that walls the set
 pub walled_of : {gap : ℕ} {A B : Piece} {g d : Vec3} (w : Dropping gap A B g) → Supported d gap A B → Walled (Spread A B g) (lifted w.k w.r1 w.r2 w.r3 d)
@@ -194,8 +188,8 @@ one_other : pos 1 ≡ pos 0 → ⊥
 one_other e = subst (λ z. T (lt_z (pos 0) z)) e tt
 
 -- a point that is its base drops to itself
-itself : (y' y : Vec3) → y' ≡ y → Drops (pos 1) (unit 0) (unit 1) (unit 2) y' y
-itself y' y e = subst (λ v. Drops (pos 1) (unit 0) (unit 1) (unit 2) v y) (sym e) (record {
+itself : (y' y : Vec3) → y' ≡ y → Drops (pos 1) (unit X) (unit Y) (unit Z) y' y
+itself y' y e = subst (λ v. Drops (pos 1) (unit X) (unit Y) (unit Z) v y) (sym e) (record {
   dx = by_ring (env1 y []) (search sides depth 9) refl;
   dy = by_ring (env1 y []) (search sides depth 9) refl;
   dz = by_ring (env1 y []) (search sides depth 9) refl;
@@ -204,19 +198,19 @@ itself y' y e = subst (λ v. Drops (pos 1) (unit 0) (unit 1) (unit 2) v y) (sym 
 dropping_solid : (A B : Piece) → Dropping 0 A B origin
 dropping_solid A B = record {
   k = pos 1;
-  r1 = unit 0;
-  r2 = unit 1;
-  r3 = unit 2;
+  r1 = unit X;
+  r2 = unit Y;
+  r3 = unit Z;
   nonzero = one_other;
-  drop = plain_drop A B origin (pos 1) (unit 0) (unit 1) (unit 2) (λ i j hi hj s. itself _ _ (plain_at (corner_at A i) (corner_at B j) s));
+  drop = plain_drop A B origin (pos 1) (unit X) (unit Y) (unit Z) (λ i j hi hj s. itself _ _ (plain_at (corner_at A i) (corner_at B j) s));
 }
 
 dropping_cube : (gap : ℕ) (A B : Piece) → Dropping gap A B (cube_widths gap)
 dropping_cube gap A B = record {
   k = pos 1;
-  r1 = unit 0;
-  r2 = unit 1;
-  r3 = unit 2;
+  r1 = unit X;
+  r2 = unit Y;
+  r3 = unit Z;
   nonzero = one_other;
   drop = λ i c j hi hc hj. itself _ _ (widened_spread gap A (corner_at B j) i c);
 }
@@ -238,7 +232,7 @@ framed_solid {A} {B} ta tb tc f = record {
   dropping = dropping_solid A B;
 }
 
-pub framed_plane : {A B : Piece} {a b : Difference} {n : Vec3} (j : ℕ) → Tagged A B origin a → Tagged A B origin b → n ≡ cross a.at b.at → (coordinate j n ≡ pos 0 → ⊥)
+pub framed_plane : {A B : Piece} {a b : Difference} {n : Vec3} (j : Axis) → Tagged A B origin a → Tagged A B origin b → n ≡ cross a.at b.at → (coordinate j n ≡ pos 0 → ⊥)
     → AllLevel (record { a = n; b = n; c = n }) A B → Framed 0 A B (plane_frame a b j)
 framed_plane {A} {B} {a} {b} {n} j ta tb en f h = record {
   ofa = thick_tagged ta (unit_corner j).0;
@@ -249,13 +243,13 @@ framed_plane {A} {B} {a} {b} {n} j ta tb en f h = record {
   of_gap = inl refl;
   dropping = record {
     k = dot n (unit j);
-    r1 = plane_row n (unit j) 0;
-    r2 = plane_row n (unit j) 1;
-    r3 = plane_row n (unit j) 2;
+    r1 = plane_row n (unit j) X;
+    r2 = plane_row n (unit j) Y;
+    r3 = plane_row n (unit j) Z;
     nonzero = other;
     drop =
-        plain_drop A B (unit j) (dot n (unit j)) (plane_row n (unit j) 0) (plane_row n (unit j) 1) (plane_row n (unit j) 2) (λ i l hi hl s. subst
-        (λ v. Drops (dot n (unit j)) (plane_row n (unit j) 0) (plane_row n (unit j) 1) (plane_row n (unit j) 2) (plus (minus (corner_at A i) (corner_at B l)) v) (minus (corner_at A i) (corner_at B l)))
+        plain_drop A B (unit j) (dot n (unit j)) (plane_row n (unit j) X) (plane_row n (unit j) Y) (plane_row n (unit j) Z) (λ i l hi hl s. subst
+        (λ v. Drops (dot n (unit j)) (plane_row n (unit j) X) (plane_row n (unit j) Y) (plane_row n (unit j) Z) (plus (minus (corner_at A i) (corner_at B l)) v) (minus (corner_at A i) (corner_at B l)))
         (sym ((axis j).spread s)) (drops_plane n (unit j) (minus (corner_at A i) (corner_at B l)) (coordinate j s) (h.all i l hi hl).one));
   };
 }
@@ -273,7 +267,7 @@ not_along c y f e =
       three = by_ring (env1 c (env1 y [])) (search sides depth 9) refl ∙ ap (λ v. pos 0 -ℤ v.z) e;
     })
 
-pub framed_line : {A B : Piece} {a : Difference} (j : ℕ) → Tagged A B origin a → (coordinate j a.at ≡ pos 0 → ⊥) → AllLevel (line_rows a.at) A B → Framed 0 A B (line_frame a j)
+pub framed_line : {A B : Piece} {a : Difference} (j : Axis) → Tagged A B origin a → (coordinate j a.at ≡ pos 0 → ⊥) → AllLevel (line_rows a.at) A B → Framed 0 A B (line_frame a j)
 framed_line {A} {B} {a} j ta nz h = record {
   ofa = thick_tagged ta (two_corner (next_axis j)).0;
   ofb = thick_tagged ta (two_corner (next_axis j)).1;
@@ -308,17 +302,17 @@ framed_line {A} {B} {a} j ta nz h = record {
 pub level_origin : (y : Vec3) → Level unit_rows y → y ≡ origin
 level_origin y l = vec_eq (sym (r0 y) ∙ l.one) (sym (r1 y) ∙ l.two) (sym (r2 y) ∙ l.three)
   where
-    r0 : (y : Vec3) → dot (unit 0) y ≡ y.x
+    r0 : (y : Vec3) → dot (unit X) y ≡ y.x
     r0 y = by_ring (env1 y []) (search sides depth 9) refl
 
-    r1 : (y : Vec3) → dot (unit 1) y ≡ y.y
+    r1 : (y : Vec3) → dot (unit Y) y ≡ y.y
     r1 y = by_ring (env1 y []) (search sides depth 9) refl
 
-    r2 : (y : Vec3) → dot (unit 2) y ≡ y.z
+    r2 : (y : Vec3) → dot (unit Z) y ≡ y.z
     r2 y = by_ring (env1 y []) (search sides depth 9) refl
 
 pub not_origin : (y : Vec3) → (Level unit_rows y → ⊥) → y ≡ origin → ⊥
-not_origin y f e = f (record { one = ap (dot (unit 0)) e; two = ap (dot (unit 1)) e; three = ap (dot (unit 2)) e })
+not_origin y f e = f (record { one = ap (dot (unit X)) e; two = ap (dot (unit Y)) e; three = ap (dot (unit Z)) e })
 
 pub framed_point : {A B : Piece} → Placed A → Placed B → AllLevel unit_rows A B → Framed 0 A B point_frame
 framed_point {A} {B} pa pb h = record {
@@ -419,18 +413,7 @@ framed_gap {gap} {A} {B} {p} pa pb f most ep w = subst (Framed gap A B) (sym w.i
         swap : (u v : ℤ) → pos 0 -ℤ (v +ℤ (pos 0 -ℤ u)) ≡ u +ℤ neg_ℤ v
         swap u v = by_ring (u ∷ v ∷ []) (search sides depth 9) refl
 
--- ---- by the number of an axis
-pub next_rest : (j : ℕ) → (j ≡ 0 → ⊥) → (j ≡ 1 → ⊥) → 0 ≡ next_axis j
-next_rest zero f g = absurd (f refl)
-next_rest (suc zero) f g = absurd (g refl)
-next_rest (suc (suc j)) f g = refl
-
-pub unit_rest : (j : ℕ) → (j ≡ 0 → ⊥) → (j ≡ 1 → ⊥) → vec (pos 0) (pos 0) (pos 1) ≡ unit j
-unit_rest zero f g = absurd (f refl)
-unit_rest (suc zero) f g = absurd (g refl)
-unit_rest (suc (suc j)) f g = refl
-
-pub axis_last : {v : Vec3} → v.x ≡ pos 0 → v.y ≡ pos 0 → AxisOf v 2
+pub axis_last : {v : Vec3} → v.x ≡ pos 0 → v.y ≡ pos 0 → AxisOf v Z
 axis_last ex ey = record { other = λ f ez. f (vec_eq ex ey ez) }
 
 -- ---- points
@@ -449,13 +432,13 @@ pub frame_eq : {w w' : Vec3} {a a' b b' c c' : Difference} → w ≡ w' → a �
     → ◌≡◌ {A = Frame} (record { widths = w; a = a; b = b; c = c }) (record { widths = w'; a = a'; b = b'; c = c' })
 frame_eq ew ea eb ec = λ i. record { widths = ew i; a = ea i; b = eb i; c = ec i }
 
-pub some_of : {A B : Piece} {rows : Three} {r : Found} → rows ≡ unit_rows → Sought rows A B r → r.found ≡ true → Some A B r.point
-some_of {r} er s e = record { tagged = s.tagged e; other = not_origin r.point.at (λ l. s.apart e (subst (λ w. Level w r.point.at) (sym er) l)) }
+pub off_point_of : {A B : Piece} {rows : Three Vec3} {p : Difference} → rows ≡ unit_rows → NotLevel rows A B p → OffPoint A B p
+off_point_of {p} er s = record { tagged = s.tagged; other = not_origin p.at (λ l. s.apart (subst (λ w. Level w p.at) (sym er) l)) }
 
-pub wide_of : {A B : Piece} {a : Difference} {rows : Three} {r : Found} → Some A B a → rows ≡ line_rows a.at → Sought rows A B r → r.found ≡ true → Wide A B a r.point
-wide_of {a} {r} h er s e = record { tagged_a = h.tagged; tagged_b = s.tagged e; other = not_along a.at r.point.at (λ l. s.apart e (subst (λ w. Level w r.point.at) (sym er) l)) }
+pub wide_of : {A B : Piece} {a p : Difference} {rows : Three Vec3} → OffPoint A B a → rows ≡ line_rows a.at → NotLevel rows A B p → Wide A B a p
+wide_of {a} {p} h er s = record { tagged_a = h.tagged; tagged_b = s.tagged; other = not_along a.at p.at (λ l. s.apart (subst (λ w. Level w p.at) (sym er) l)) }
 
-pub level_is : {A B : Piece} {rows w : Three} → rows ≡ w → AllLevel rows A B → AllLevel w A B
+pub level_is : {A B : Piece} {rows w : Three Vec3} → rows ≡ w → AllLevel rows A B → AllLevel w A B
 level_is {A} {B} e h = subst (λ r. AllLevel r A B) e h
 
 -- the product of two differences
@@ -466,30 +449,30 @@ cross_near {a} {b} pa pb h e = subst (Upto 137438953472) (sym e) (go a.at b.at (
     go u v hu hv = record { ux = within (search known depth 9) tt; uy = within (search known depth 9) tt; uz = within (search known depth 9) tt }
 
 -- ---- the four frames, from what the scans found
-pub framed_at_a_point : {A B : Piece} {rows : Three} {r : Found} {f : Frame} → Placed A → Placed B → rows ≡ unit_rows → Sought rows A B r → r.found ≡ false → f ≡ point_frame → Framed 0 A B f
-framed_at_a_point {A} {B} pa pb er s e ef = subst (Framed 0 A B) (sym ef) (framed_point pa pb (level_is er (s.none e)))
+pub framed_at_a_point : {A B : Piece} {rows : Three Vec3} {f : Frame} → Placed A → Placed B → rows ≡ unit_rows → AllLevel rows A B → f ≡ point_frame → Framed 0 A B f
+framed_at_a_point {A} {B} pa pb er s ef = subst (Framed 0 A B) (sym ef) (framed_point pa pb (level_is er s))
 
-pub framed_on_a_line : {A B : Piece} {a : Difference} {rows : Three} {r : Found} {f : Frame} → Placed A → Placed B → Some A B a → rows ≡ line_rows a.at → Sought rows A B r → r.found ≡ false
+pub framed_on_a_line : {A B : Piece} {a : Difference} {rows : Three Vec3} {f : Frame} → Placed A → Placed B → OffPoint A B a → rows ≡ line_rows a.at → AllLevel rows A B
     → OnLine a f → Framed 0 A B f
-framed_on_a_line {A} {B} pa pb h er s e l = subst (Framed 0 A B) (sym l.is) (framed_line l.axis_is h.tagged (l.of.other h.other) (level_is er (s.none e)))
+framed_on_a_line {A} {B} pa pb h er s l = subst (Framed 0 A B) (sym l.is) (framed_line l.axis_is h.tagged (l.of.other h.other) (level_is er s))
 
-pub framed_in_a_plane : {A B : Piece} {a b : Difference} {n : Vec3} {rows : Three} {r : Found} {f : Frame} → Placed A → Placed B → Wide A B a b → n ≡ cross a.at b.at → rows ≡ plane_rows n
-    → Sought rows A B r → r.found ≡ false → InPlane a b n f → Framed 0 A B f
-framed_in_a_plane {A} {B} pa pb h en er s e l =
+pub framed_in_a_plane : {A B : Piece} {a b : Difference} {n : Vec3} {rows : Three Vec3} {f : Frame} → Placed A → Placed B → Wide A B a b → n ≡ cross a.at b.at → rows ≡ plane_rows n
+    → AllLevel rows A B → InPlane a b n f → Framed 0 A B f
+framed_in_a_plane {A} {B} pa pb h en er s l =
     subst (Framed 0 A B) (sym l.is)
-    (framed_plane l.axis_is h.tagged_a h.tagged_b en (l.of.other (λ z. h.other (sym en ∙ z))) (level_is er (s.none e)))
+    (framed_plane l.axis_is h.tagged_a h.tagged_b en (l.of.other (λ z. h.other (sym en ∙ z))) (level_is er s))
 
-pub framed_solid_of : {A B : Piece} {a b : Difference} {n : Vec3} {rows : Three} {r : Found} → Wide A B a b → n ≡ cross a.at b.at → rows ≡ plane_rows n → Sought rows A B r → r.found ≡ true
-    → Framed 0 A B (solid_frame a b r.point)
-framed_solid_of {A} {B} {a} {b} {n} {r} h en er s e = framed_solid h.tagged_a h.tagged_b (s.tagged e)
-    (λ z. s.apart e (subst (λ w. Level w r.point.at) (sym er) (let k = ap (λ v. dot v r.point.at) en ∙ z in record { one = k; two = k; three = k })))
+pub framed_solid_of : {A B : Piece} {a b p : Difference} {n : Vec3} {rows : Three Vec3} → Wide A B a b → n ≡ cross a.at b.at → rows ≡ plane_rows n → NotLevel rows A B p
+    → Framed 0 A B (solid_frame a b p)
+framed_solid_of {A} {B} {a} {b} {p} {n} h en er s = framed_solid h.tagged_a h.tagged_b s.tagged
+    (λ z. s.apart (subst (λ w. Level w p.at) (sym er) (let k = ap (λ v. dot v p.at) en ∙ z in record { one = k; two = k; three = k })))
 
 pub rows_made : {a a' b b' c c' : Vec3} → (a ≡ a') × Upto normal_reach a → (b ≡ b') × Upto normal_reach b → (c ≡ c') × Upto normal_reach c
-    → (◌≡◌ {A = Three} (record { a = a; b = b; c = c }) (record { a = a'; b = b'; c = c' })) × Rows (record { a = a; b = b; c = c })
+    → (◌≡◌ {A = Three Vec3} (record { a = a; b = b; c = c }) (record { a = a'; b = b'; c = c' })) × Rows (record { a = a; b = b; c = c })
 rows_made p q r = (λ i. record { a = p.0 i; b = q.0 i; c = r.0 i }, record { one = p.1; two = q.1; three = r.1 })
 
 -- a frame has one portal to start from
-pub started_once : (f : Frame) {q r : Portal} → FirstPortal f q → FirstPortal f r → q ≡ r
+pub started_once : (f : Frame) {q r : Three Difference} → FirstPortal f q → FirstPortal f r → q ≡ r
 started_once f (inl a) (inl b) = a.1 ∙ sym b.1
 started_once f (inl a) (inr b) = clash_ℤ a.0 b.0
 started_once f (inr a) (inl b) = clash_ℤ b.0 a.0

@@ -3,5 +3,9 @@
 #![tactic(auto)]
 
 mod frame;
+mod scan;
+mod start;
+mod thick;
 
-pub use frame::{Frame, frame_of, frame_places, shift_of, start_of};
+pub use frame::{Frame, frame_of};
+pub use start::{frame_places, shift_of, start_of};

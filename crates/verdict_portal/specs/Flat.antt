@@ -1,6 +1,6 @@
 -- Flat sets are made thick by a box along the axes that complete their span: the vectors of that, with no set in sight.
 -- The determinants of the thick frames, how a thick point drops to its base, and how a direction lifts (F2, F4, W5).
-use Rattle.std.specs.Prelude.{◌≡◌, refl, [], ◌∷◌, ◌⊎◌, ℕ, zero, suc, ℤ, pos, negsuc, neg_ℤ, ◌+ℤ◌, ◌-ℤ◌, ◌*ℤ◌, ◌<ℤ◌}
+use Rattle.std.specs.Prelude.{◌≡◌, refl, [], ◌∷◌, ◌⊎◌, ℤ, pos, negsuc, neg_ℤ, ◌+ℤ◌, ◌-ℤ◌, ◌*ℤ◌, ◌<ℤ◌}
 use Rattle.std.proofs.Common.{sym, ◌∙◌, subst, ⊎_elim}
 use Rattle.std.proofs.Math.IntN.{*ℤ-zero}
 use Rattle.ints.specs.Laws.{*ℤ-distribl}
@@ -8,7 +8,9 @@ use Rattle.ints.proofs.Quote.{sides, by_ring}
 use Rattle.ints.specs.Order.{trichotomy}
 use Rattle.ints.proofs.OrderLaws.{zero-product, eq_comb, z_diff, z_add, pos_mul, <ℤ-neg}
 use Rattle.space.specs.declared.Vec3.{Vec3}
-use Rattle.space.specs.Vectors.{dot, cross, minus, plus, scale, det, env1, opposite, vec_eq}
+use Rattle.space.specs.declared.Axis.{Axis}
+use Rattle.space.specs.declared.Axis.TheVariants.{X, Y, Z}
+use Rattle.space.specs.Vectors.{dot, cross, minus, plus, scale, det, env1, opposite, vec_eq, unit, next_axis, coordinate}
 use Rattle.verdict_portal.specs.Portal.{ZeroSum, zero_sum_dot}
 
 -- coordinate by coordinate
@@ -30,24 +32,9 @@ pub record Signs (s : Vec3) : Type 0 where
   pub one_y : Sign s.y
   pub one_z : Sign s.z
 
--- ---- the axes, counted from 0, and the one after
-abbrev pub unit : ℕ → Vec3
-unit zero = vec (pos 1) (pos 0) (pos 0)
-unit (suc zero) = vec (pos 0) (pos 1) (pos 0)
-unit (suc (suc j)) = vec (pos 0) (pos 0) (pos 1)
-
-abbrev pub next_axis : ℕ → ℕ
-next_axis zero = 1
-next_axis (suc zero) = 2
-next_axis (suc (suc j)) = 0
-
-abbrev pub coordinate : ℕ → Vec3 → ℤ
-coordinate zero v = v.x
-coordinate (suc zero) v = v.y
-coordinate (suc (suc j)) v = v.z
-
+-- ---- the axes
 -- an axis as the table of flat sets needs it
-pub record FlatAxis (j : ℕ) : Type 0 where
+pub record FlatAxis (j : Axis) : Type 0 where
   pub spread : (s : Vec3) → had s (unit j) ≡ scale (coordinate j s) (unit j)
   pub along : (v : Vec3) → dot v (unit j) ≡ coordinate j v
   pub box : (v : Vec3) → det v (unit (next_axis j)) (unit (next_axis (next_axis j))) ≡ coordinate j v
@@ -55,18 +42,18 @@ pub record FlatAxis (j : ℕ) : Type 0 where
 nil : (u v : ℤ) → u *ℤ pos 0 ≡ v *ℤ pos 0
 nil u v = *ℤ-zero u ∙ sym (*ℤ-zero v)
 
-pub axis : (j : ℕ) → FlatAxis j
-axis zero = record {
+pub axis : (j : Axis) → FlatAxis j
+axis X = record {
   spread = λ s. vec_eq refl (nil s.y s.x) (nil s.z s.x);
   along = λ v. by_ring (env1 v []) (search sides depth 9) refl;
   box = λ v. by_ring (env1 v []) (search sides depth 9) refl;
 }
-axis (suc zero) = record {
+axis Y = record {
   spread = λ s. vec_eq (nil s.x s.y) refl (nil s.z s.y);
   along = λ v. by_ring (env1 v []) (search sides depth 9) refl;
   box = λ v. by_ring (env1 v []) (search sides depth 9) refl;
 }
-axis (suc (suc j)) = record {
+axis Z = record {
   spread = λ s. vec_eq (nil s.x s.z) (nil s.y s.z) refl;
   along = λ v. by_ring (env1 v []) (search sides depth 9) refl;
   box = λ v. by_ring (env1 v []) (search sides depth 9) refl;
@@ -106,10 +93,10 @@ f4 {k} {w0} {w1} {w2} {w3} {r1} {r2} {r3} {p'} {a'} {b'} {c'} {p} {a} {b} {c} f 
 }
 
 -- in the plane of n, thick along e: y ↦ (n·e) y − (n·y) e
-abbrev pub plane_row : Vec3 → Vec3 → ℕ → Vec3
+abbrev pub plane_row : Vec3 → Vec3 → Axis → Vec3
 plane_row n e j = minus (scale (dot n e) (unit j)) (scale (coordinate j e) n)
 
-pub drops_plane : (n e y : Vec3) (t : ℤ) → dot n y ≡ pos 0 → Drops (dot n e) (plane_row n e 0) (plane_row n e 1) (plane_row n e 2) (plus y (scale t e)) y
+pub drops_plane : (n e y : Vec3) (t : ℤ) → dot n y ≡ pos 0 → Drops (dot n e) (plane_row n e X) (plane_row n e Y) (plane_row n e Z) (plus y (scale t e)) y
 drops_plane n e y t h = record {
   dx = eq_comb (z_diff (neg_ℤ e.x) h) (by_ring (t ∷ env1 n (env1 e (env1 y []))) (search sides depth 40) refl);
   dy = eq_comb (z_diff (neg_ℤ e.y) h) (by_ring (t ∷ env1 n (env1 e (env1 y []))) (search sides depth 40) refl);
@@ -117,12 +104,12 @@ drops_plane n e y t h = record {
 }
 
 -- on the line of c, thick along e and f: y ↦ (y·(e×f)) c. A vector is along c where it is level with three rows
-abbrev pub line_row : Vec3 → ℕ → Vec3
-line_row c zero = vec (pos 0) c.z (pos 0 -ℤ c.y)
-line_row c (suc zero) = vec (pos 0 -ℤ c.z) (pos 0) c.x
-line_row c (suc (suc j)) = vec c.y (pos 0 -ℤ c.x) (pos 0)
+abbrev pub line_row : Vec3 → Axis → Vec3
+line_row c X = vec (pos 0) c.z (pos 0 -ℤ c.y)
+line_row c Y = vec (pos 0 -ℤ c.z) (pos 0) c.x
+line_row c Z = vec c.y (pos 0 -ℤ c.x) (pos 0)
 
-pub drops_line : (c e f y : Vec3) (t u : ℤ) → dot (line_row c 0) y ≡ pos 0 → dot (line_row c 1) y ≡ pos 0 → dot (line_row c 2) y ≡ pos 0
+pub drops_line : (c e f y : Vec3) (t u : ℤ) → dot (line_row c X) y ≡ pos 0 → dot (line_row c Y) y ≡ pos 0 → dot (line_row c Z) y ≡ pos 0
     → Drops (det e f c) (scale c.x (cross e f)) (scale c.y (cross e f)) (scale c.z (cross e f)) (plus y (plus (scale t e) (scale u f))) y
 drops_line c e f y t u hx hy hz = record {
   dx = eq_comb (z_add (z_diff (cross e f).z hy) (z_diff (neg_ℤ (cross e f).y) hz)) (by_ring (t ∷ u ∷ env1 c (env1 e (env1 f (env1 y [])))) (search sides depth 40) refl);

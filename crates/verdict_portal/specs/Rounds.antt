@@ -1,7 +1,7 @@
 -- What the functions of a round say, and the laws by which each says it.
 -- A round ends in a meeting, or with p in one of the three slots, the portal held and the measure less.
-use Rattle.std.specs.Prelude.{◌≡◌, refl, Bool, true, false, ◌⊎◌, ℕ, zero, suc, ◌≤◌, max, T, ℤ, pos, negsuc, ◌≤ℤ◌, ◌<ℤ◌}
-use Rattle.std.proofs.Common.{sym, ap, ap₂, ◌∙◌, subst, inl, inr, ⊎_elim, le_trans, arith, to_z, of_z}
+use Rattle.std.specs.Prelude.{◌≡◌, refl, Option, Some, None, Bool, true, false, ◌⊎◌, ℕ, zero, suc, ◌≤◌, max, T, ℤ, pos, negsuc, ◌≤ℤ◌, ◌<ℤ◌}
+use Rattle.std.proofs.Common.{sym, ap, ap₂, ◌∙◌, subst, inl, inr, ⊎_elim, le_trans, to_z, of_z}
 use Rattle.std.proofs.Math.Nat.{le-max_left, le-max_right}
 use Rattle.std.specs.Int.{w64}
 use Rattle.std.proofs.Math.Facts.{sfits_lit}
@@ -16,100 +16,90 @@ use Rattle.space.specs.declared.Vec3.{Vec3}
 use Rattle.space.specs.Vectors.{dot, cross, minus, plus}
 use Rattle.space.specs.Ranges.{Upto, point_reach, edge_reach, cross_reach}
 use Rattle.verdict_portal.specs.Shift.{side, side_low, front, tie}
-use Rattle.verdict_portal.specs.Round.{Setting, PortalHeld, Moved, Met, AllNN, At, held_rot, moved_rot, front_rot, round_here, round_next, not-all, meet}
+use Rattle.verdict_portal.specs.Round.{Setting, PortalHeld, Moved, Met, AllNN, At, held_rot, front_rot, round_here, round_next, not-all}
 use Rattle.verdict_portal.specs.declared.Three.{Three}
+use Rattle.verdict_portal.specs.declared.Slot.{Slot}
+use Rattle.verdict_portal.specs.declared.Slot.TheVariants.{First, Second, Third}
 
-abbrev pub leading_of : Vec3 → Three → ℤ
+abbrev pub leading_of : Vec3 → Three Vec3 → ℤ
 leading_of m f = lex (dot m f.a) (lex (dot m f.b) (dot m f.c))
 
-abbrev pub rot : Three → Three
+abbrev pub rot : Three Vec3 → Three Vec3
 rot t = record { a = t.b; b = t.c; c = t.a }
 
-abbrev pub three : Vec3 → Vec3 → Vec3 → Three
+abbrev pub three : Vec3 → Vec3 → Vec3 → Three Vec3
 three a b c = record { a = a; b = b; c = c }
-
-abbrev pub chosen : Bool → ℕ → ℕ → ℕ
-chosen true x y = x
-chosen false x y = y
 
 abbrev pub both_of : Bool → Bool → Bool
 both_of true n = n
 both_of false n = false
 
--- whose round it is, by the edges that p is outside of: 0 is none's
-abbrev pub slot_of : Bool → Bool → Bool → ℕ
-slot_of true two last = chosen last 3 1
-slot_of false true last = 2
-slot_of false false last = chosen last 3 0
+-- whose round it is, by the edges that p is outside of
+abbrev pub slot_of : Bool → Bool → Bool → Option Slot
+slot_of true two true = Some Third
+slot_of true two false = Some First
+slot_of false true last = Some Second
+slot_of false false true = Some Third
+slot_of false false false = None
 
 -- a portal's edges: the products of its corners two by two, each in the slot of the corner that it leaves out
-pub record Edges (t x : Three) : Type 0 where
+pub record Edges (t x : Three Vec3) : Type 0 where
   pub one : (x.a ≡ cross t.b t.c) × Upto edge_reach x.a
   pub two : (x.b ≡ cross t.c t.a) × Upto edge_reach x.b
   pub last : (x.c ≡ cross t.a t.b) × Upto edge_reach x.c
 
 -- all that a round is asked with
-pub record Ready (q : Vec3) (f t : Three) (p : Vec3) : Type 0 where
+pub record Ready (q : Vec3) (f t : Three Vec3) (p : Vec3) : Type 0 where
   pub setting : Setting q f.a f.b f.c
   pub held : PortalHeld q f.a f.b f.c t.a t.b t.c
   pub inp : Upto point_reach p
   pub fore : pos 0 ≤ℤ front q p t.a t.b t.c
 
 -- u follows t: it is held too, and its measure is less
-abbrev pub RoundFollows : Vec3 → Three → Three → Three → Type 0
+abbrev pub RoundFollows : Vec3 → Three Vec3 → Three Vec3 → Three Vec3 → Type 0
 RoundFollows q f t u = Moved q f.a f.b f.c t.a t.b t.c u.a u.b u.c
 
 -- it is the first slot's round
-pub record First (q : Vec3) (t : Three) (p : Vec3) : Type 0 where
+pub record Here (q : Vec3) (t : Three Vec3) (p : Vec3) : Type 0 where
   pub at : At (side q p t.b t.c) (side q p t.a t.b)
 
 -- p for the second corner, or for the first
-pub record Beside (q : Vec3) (f t : Three) (p : Vec3) (r : Bool) : Type 0 where
+pub record Beside (q : Vec3) (f t : Three Vec3) (p : Vec3) (r : Bool) : Type 0 where
   pub second : r ≡ true → RoundFollows q f t (three t.a p t.c)
   pub here : r ≡ false → RoundFollows q f t (three p t.b t.c)
 
--- whose round it is: 0 is none's
-pub record Choice (q : Vec3) (t : Three) (p : Vec3) (r : ℕ) : Type 0 where
-  pub none : r ≡ 0 → AllNN (side q p t.b t.c) (side q p t.c t.a) (side q p t.a t.b)
-  pub one : r ≡ 1 → First q t p
-  pub two : r ≡ 2 → First q (rot t) p
-  pub rest : (r ≡ 0 → ⊥) → (r ≡ 1 → ⊥) → (r ≡ 2 → ⊥) → First q (rot (rot t)) p
+-- whose round it is
+abbrev pub Choice : Vec3 → Three Vec3 → Vec3 → Option Slot → Type 0
+Choice q t p None = AllNN (side q p t.b t.c) (side q p t.c t.a) (side q p t.a t.b)
+Choice q t p (Some First) = Here q t p
+Choice q t p (Some Second) = Here q (rot t) p
+Choice q t p (Some Third) = Here q (rot (rot t)) p
+
+-- p for the corner in a slot
+abbrev pub put_in : Slot → Three Vec3 → Vec3 → Three Vec3
+put_in First t p = three p t.b t.c
+put_in Second t p = three t.a p t.c
+put_in Third t p = three t.a t.b p
 
 -- what one round says
-pub record RoundSays (q : Vec3) (f t : Three) (p : Vec3) (r : ℕ) : Type 0 where
-  pub met : r ≡ 0 → Met q p t.a t.b t.c
-  pub one : r ≡ 1 → RoundFollows q f t (three p t.b t.c)
-  pub two : r ≡ 2 → RoundFollows q f t (three t.a p t.c)
-  pub rest : (r ≡ 0 → ⊥) → (r ≡ 1 → ⊥) → (r ≡ 2 → ⊥) → RoundFollows q f t (three t.a t.b p)
-  pub few : r ≤ 3
+abbrev pub RoundSays : Vec3 → Three Vec3 → Three Vec3 → Vec3 → Option Slot → Type 0
+RoundSays q f t p None = Met q p t.a t.b t.c
+RoundSays q f t p (Some s) = RoundFollows q f t (put_in s t p)
 
 -- ---- rotation
-pub ready_rot : {q : Vec3} {f t : Three} {p : Vec3} → Ready q f t p → Ready q f (rot t) p
+pub ready_rot : {q : Vec3} {f t : Three Vec3} {p : Vec3} → Ready q f t p → Ready q f (rot t) p
 ready_rot {q} {t} {p} r = record { setting = r.setting; held = held_rot r.held; inp = r.inp; fore = subst (λ z. pos 0 ≤ℤ z) (sym (front_rot q p t.a t.b t.c)) r.fore }
 
--- ---- whose round: by the signs
-choose_none : {q : Vec3} {t : Three} {p : Vec3} {r : ℕ} → r ≡ 0 → pos 0 ≤ℤ side q p t.b t.c → pos 0 ≤ℤ side q p t.c t.a → pos 0 ≤ℤ side q p t.a t.b → Choice q t p r
-choose_none e u v w = record { none = λ _. record { n1 = u; n2 = v; n3 = w }; one = λ k. absurd (omega arith); two = λ k. absurd (omega arith); rest = λ f g h. absurd (f e) }
-
-choose_one : {q : Vec3} {t : Three} {p : Vec3} {r : ℕ} → r ≡ 1 → side q p t.b t.c <ℤ pos 0 → pos 0 ≤ℤ side q p t.a t.b → Choice q t p r
-choose_one e u w = record { none = λ k. absurd (omega arith); one = λ _. record { at = record { here = u; back = w } }; two = λ k. absurd (omega arith); rest = λ f g h. absurd (g e) }
-
-choose_two : {q : Vec3} {t : Three} {p : Vec3} {r : ℕ} → r ≡ 2 → side q p t.c t.a <ℤ pos 0 → pos 0 ≤ℤ side q p t.b t.c → Choice q t p r
-choose_two e u w = record { none = λ k. absurd (omega arith); one = λ k. absurd (omega arith); two = λ _. record { at = record { here = u; back = w } }; rest = λ f g h. absurd (h e) }
-
-choose_three : {q : Vec3} {t : Three} {p : Vec3} {r : ℕ} → r ≡ 3 → side q p t.a t.b <ℤ pos 0 → pos 0 ≤ℤ side q p t.c t.a → Choice q t p r
-choose_three e u w = record { none = λ k. absurd (omega arith); one = λ k. absurd (omega arith); two = λ k. absurd (omega arith); rest = λ f g h. record { at = record { here = u; back = w } } }
-
 -- where the first and the third edge have p outside, the second does not
-not-second : {q : Vec3} {f t : Three} {p : Vec3} → Ready q f t p → side q p t.b t.c <ℤ pos 0 → side q p t.a t.b <ℤ pos 0 → pos 0 ≤ℤ side q p t.c t.a
+not-second : {q : Vec3} {f t : Three Vec3} {p : Vec3} → Ready q f t p → side q p t.b t.c <ℤ pos 0 → side q p t.a t.b <ℤ pos 0 → pos 0 ≤ℤ side q p t.c t.a
 not-second {q} {t} {p} r u w = ⊎_elim (λ h. h) (λ h. absurd (not-all r.setting r.held r.inp r.fore u h w)) (le-or-lt (pos 0) (side q p t.c t.a))
 
 -- ---- the first slot's round
-beside_here : {q : Vec3} {f t : Three} {p : Vec3} {r : Bool} → r ≡ false → Ready q f t p → First q t p
+beside_here : {q : Vec3} {f t : Three Vec3} {p : Vec3} {r : Bool} → r ≡ false → Ready q f t p → Here q t p
     → (pos 0 ≤ℤ side q p t.c t.a) ⊎ (pos 0 ≤ℤ tie q p t.c f.a f.b f.c) → Beside q f t p r
 beside_here e r s d = record { second = λ k. absurd (subst T (sym k ∙ e) tt); here = λ _. round_here r.setting r.held r.inp r.fore s.at.here s.at.back d }
 
-beside_second : {q : Vec3} {f t : Three} {p : Vec3} {r : Bool} → r ≡ true → Ready q f t p → First q t p → side q p t.c t.a <ℤ pos 0 → tie q p t.c f.a f.b f.c <ℤ pos 0
+beside_second : {q : Vec3} {f t : Three Vec3} {p : Vec3} {r : Bool} → r ≡ true → Ready q f t p → Here q t p → side q p t.c t.a <ℤ pos 0 → tie q p t.c f.a f.b f.c <ℤ pos 0
     → Beside q f t p r
 beside_second e r s d k = record { second = λ _. round_next r.setting r.held r.inp r.fore d s.at.back k; here = λ u. absurd (subst T (sym e ∙ u) tt) }
 
@@ -121,59 +111,25 @@ pub unsaid : {r : Bool} {a : ℤ} → r ≡ lt_z a (pos 0) → r ≡ false → p
 unsaid e t = le_of_false (sym e ∙ t)
 
 -- the tie's answer is the round's, where the neighbouring edge has p outside
-beside_tied : {q : Vec3} {f t : Three} {p : Vec3} (r : Bool) → r ≡ lt_z (tie q p t.c f.a f.b f.c) (pos 0) → Ready q f t p → First q t p → side q p t.c t.a <ℤ pos 0
+beside_tied : {q : Vec3} {f t : Three Vec3} {p : Vec3} (r : Bool) → r ≡ lt_z (tie q p t.c f.a f.b f.c) (pos 0) → Ready q f t p → Here q t p → side q p t.c t.a <ℤ pos 0
     → Beside q f t p r
 beside_tied true e r s d = beside_second refl r s d (said e refl)
 beside_tied false e r s d = beside_here refl r s (inr (unsaid e refl))
 
--- the third slot's round or another's, by the last edge
-choose_third_or_first : {q : Vec3} {f t : Three} {p : Vec3} {r : ℕ} (b : Bool) → b ≡ lt_z (side q p t.a t.b) (pos 0) → r ≡ chosen b 3 1 → Ready q f t p
-    → side q p t.b t.c <ℤ pos 0 → Choice q t p r
-choose_third_or_first true e k r u = choose_three k (said e refl) (not-second r u (said e refl))
-choose_third_or_first false e k r u = choose_one k u (unsaid e refl)
-
-choose_third_or_none : {q : Vec3} {t : Three} {p : Vec3} {r : ℕ} (b : Bool) → b ≡ lt_z (side q p t.a t.b) (pos 0) → r ≡ chosen b 3 0 → pos 0 ≤ℤ side q p t.b t.c
-    → pos 0 ≤ℤ side q p t.c t.a → Choice q t p r
-choose_third_or_none true e k u v = choose_three k (said e refl) v
-choose_third_or_none false e k u v = choose_none k u v (unsaid e refl)
-
 -- whose round, by the three edges' signs
-pub choice_of : {q : Vec3} {f t : Three} {p : Vec3} {r : ℕ} (u v w : Bool) → u ≡ lt_z (side q p t.b t.c) (pos 0) → v ≡ lt_z (side q p t.c t.a) (pos 0)
-    → w ≡ lt_z (side q p t.a t.b) (pos 0) → Ready q f t p → r ≡ slot_of u v w → Choice q t p r
-choice_of true v w eu ev ew r k = choose_third_or_first w ew k r (said eu refl)
-choice_of false true w eu ev ew r k = choose_two k (said ev refl) (unsaid eu refl)
-choice_of false false w eu ev ew r k = choose_third_or_none w ew k (unsaid eu refl) (unsaid ev refl)
+pub choice_of : {q : Vec3} {f t : Three Vec3} {p : Vec3} (u v w : Bool) → u ≡ lt_z (side q p t.b t.c) (pos 0) → v ≡ lt_z (side q p t.c t.a) (pos 0)
+    → w ≡ lt_z (side q p t.a t.b) (pos 0) → Ready q f t p → Choice q t p (slot_of u v w)
+choice_of true v true eu ev ew r = record { at = record { here = said ew refl; back = not-second r (said eu refl) (said ew refl) } }
+choice_of true v false eu ev ew r = record { at = record { here = said eu refl; back = unsaid ew refl } }
+choice_of false true w eu ev ew r = record { at = record { here = said ev refl; back = unsaid eu refl } }
+choice_of false false true eu ev ew r = record { at = record { here = said ew refl; back = unsaid ev refl } }
+choice_of false false false eu ev ew r = record { n1 = unsaid eu refl; n2 = unsaid ev refl; n3 = unsaid ew refl }
 
 -- the first slot's round, by the next edge's sign and the tie's
-pub beside_of : {q : Vec3} {f t : Three} {p : Vec3} {r : Bool} (n : Bool) → n ≡ lt_z (side q p t.c t.a) (pos 0) → r ≡ both_of n (lt_z (tie q p t.c f.a f.b f.c) (pos 0)) → Ready q f t p
-    → First q t p → Beside q f t p r
+pub beside_of : {q : Vec3} {f t : Three Vec3} {p : Vec3} {r : Bool} (n : Bool) → n ≡ lt_z (side q p t.c t.a) (pos 0) → r ≡ both_of n (lt_z (tie q p t.c f.a f.b f.c) (pos 0)) → Ready q f t p
+    → Here q t p → Beside q f t p r
 beside_of {r} true e k s h = beside_tied r k s h (said e refl)
 beside_of false e k s h = beside_here k s h (inl (unsaid e refl))
-
--- ---- a whole round
-pub round_met : {q : Vec3} {f t : Three} {p : Vec3} {r : ℕ} → r ≡ 0 → Ready q f t p → AllNN (side q p t.b t.c) (side q p t.c t.a) (side q p t.a t.b) → RoundSays q f t p r
-round_met e r n = record { met = λ _. meet r.setting r.held r.inp n; one = λ k. absurd (omega arith); two = λ k. absurd (omega arith); rest = λ f g h. absurd (f e); few = omega arith }
-
-put_one : {q : Vec3} {f t : Three} {p : Vec3} {r : ℕ} → r ≡ 1 → RoundFollows q f t (three p t.b t.c) → RoundSays q f t p r
-put_one e m = record { met = λ k. absurd (omega arith); one = λ _. m; two = λ k. absurd (omega arith); rest = λ f g h. absurd (g e); few = omega arith }
-
-put_two : {q : Vec3} {f t : Three} {p : Vec3} {r : ℕ} → r ≡ 2 → RoundFollows q f t (three t.a p t.c) → RoundSays q f t p r
-put_two e m = record { met = λ k. absurd (omega arith); one = λ k. absurd (omega arith); two = λ _. m; rest = λ f g h. absurd (h e); few = omega arith }
-
-put_three : {q : Vec3} {f t : Three} {p : Vec3} {r : ℕ} → r ≡ 3 → RoundFollows q f t (three t.a t.b p) → RoundSays q f t p r
-put_three e m = record { met = λ k. absurd (omega arith); one = λ k. absurd (omega arith); two = λ k. absurd (omega arith); rest = λ f g h. m; few = omega arith }
-
-pub round_first : {q : Vec3} {f t : Three} {p : Vec3} {r : ℕ} (b : Bool) → r ≡ chosen b 2 1 → Beside q f t p b → RoundSays q f t p r
-round_first true e n = put_two e (n.second refl)
-round_first false e n = put_one e (n.here refl)
-
-pub round_second : {q : Vec3} {f t : Three} {p : Vec3} {r : ℕ} (b : Bool) → r ≡ chosen b 3 2 → Beside q f (rot t) p b → RoundSays q f t p r
-round_second true e n = put_three e (moved_rot (n.second refl))
-round_second false e n = put_two e (moved_rot (n.here refl))
-
-pub round_third : {q : Vec3} {f t : Three} {p : Vec3} {r : ℕ} (b : Bool) → r ≡ chosen b 1 3 → Beside q f (rot (rot t)) p b → RoundSays q f t p r
-round_third true e n = put_one e (moved_rot (moved_rot (n.second refl)))
-round_third false e n = put_three e (moved_rot (moved_rot (n.here refl)))
 
 -- ---- what is made of the parts, in the order of the code
 pub side_level : (q p b c : Vec3) {x v e s : Vec3} → x ≡ cross b c → v ≡ minus b c → e ≡ cross p v → s ≡ plus x e → dot x p ≡ pos 0 → dot s q ≡ side q p b c
@@ -182,7 +138,7 @@ side_level q p b c hx hv he hs z = ap (λ w. dot w q) (hs ∙ ap₂ plus hx (he 
 pub side_clear : (q p b c : Vec3) {x : Vec3} → x ≡ cross b c → (dot x p ≡ pos 0 → ⊥) → dot x p ≡ side q p b c
 side_clear q p b c hx f = ap (λ w. dot w p) hx ∙ sym (lex_other (side_low q p b c) (λ z. f (ap (λ w. dot w p) hx ∙ z)))
 
-tied_is : (q p r : Vec3) (f : Three) → lex (leading_of (cross p r) f) (leading_of (cross (minus p r) q) f) ≡ tie q p r f.a f.b f.c
+tied_is : (q p r : Vec3) (f : Three Vec3) → lex (leading_of (cross p r) f) (leading_of (cross (minus p r) q) f) ≡ tie q p r f.a f.b f.c
 tied_is q p r f = lex_assoc (dot m f.a) (lex (dot m f.b) (dot m f.c)) w ∙ ap (lex (dot m f.a)) (lex_assoc (dot m f.b) (dot m f.c) w)
   where
     m : Vec3
@@ -191,11 +147,11 @@ tied_is q p r f = lex_assoc (dot m f.a) (lex (dot m f.b) (dot m f.c)) w ∙ ap (
     w : ℤ
     w = leading_of (cross (minus p r) q) f
 
-pub tied_level : (q p r : Vec3) (f : Three) {m v n : Vec3} → m ≡ cross p r → v ≡ minus p r → n ≡ cross v q → leading_of m f ≡ pos 0 → leading_of n f ≡ tie q p r f.a f.b f.c
+pub tied_level : (q p r : Vec3) (f : Three Vec3) {m v n : Vec3} → m ≡ cross p r → v ≡ minus p r → n ≡ cross v q → leading_of m f ≡ pos 0 → leading_of n f ≡ tie q p r f.a f.b f.c
 tied_level q p r f hm hv hn z =
     ap (λ n. leading_of n f) (hn ∙ ap (λ v. cross v q) hv) ∙ sym (lex_zero (leading_of (cross (minus p r) q) f) (sym (ap (λ m. leading_of m f) hm) ∙ z)) ∙ tied_is q p r f
 
-pub tied_clear : (q p r : Vec3) (f : Three) {m : Vec3} → m ≡ cross p r → (leading_of m f ≡ pos 0 → ⊥) → leading_of m f ≡ tie q p r f.a f.b f.c
+pub tied_clear : (q p r : Vec3) (f : Three Vec3) {m : Vec3} → m ≡ cross p r → (leading_of m f ≡ pos 0 → ⊥) → leading_of m f ≡ tie q p r f.a f.b f.c
 tied_clear q p r f hm g = ap (λ m. leading_of m f) hm ∙ sym (lex_other (leading_of (cross (minus p r) q) f) (λ z. g (ap (λ m. leading_of m f) hm ∙ z))) ∙ tied_is q p r f
 
 -- ---- what is known of lex, where both are known
@@ -223,7 +179,7 @@ k_lex a b p q = record {
 pub dot_within : {m p : Vec3} → Upto cross_reach m → Upto point_reach p → Within 679395106750464000 (dot m p)
 dot_within um up = within (search known depth 15) tt
 
-pub leading_within : {m : Vec3} {f : Three} → Upto cross_reach m → Upto point_reach f.a → Upto point_reach f.b → Upto point_reach f.c → Within 679395106750464000 (leading_of m f)
+pub leading_within : {m : Vec3} {f : Three Vec3} → Upto cross_reach m → Upto point_reach f.a → Upto point_reach f.b → Upto point_reach f.c → Within 679395106750464000 (leading_of m f)
 leading_within um u1 u2 u3 = within (search (known, k_lex) depth 25) tt
 
 -- ---- a number that is tested for 0 by its bits

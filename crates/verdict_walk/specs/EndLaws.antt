@@ -1,31 +1,31 @@
 -- Laws of a walk's ends: what each round keeps, that the ends are as promised, and that whether they met is one.
 -- The definitions stand in Ends.
-use Rattle.std.specs.Prelude.{◌≡◌, refl, Bool, true, false, ◌⊎◌, ℕ, ◌≤◌, ◌<◌, T, pos, ◌≤ℤ◌, ◌<ℤ◌}
-use Rattle.std.proofs.Common.{sym, ap, ap₂, ◌∙◌, subst, inl, inr, arith}
+use Rattle.std.specs.Prelude.{◌≡◌, refl, Some, None, Bool, true, false, T, pos, ◌≤ℤ◌, ◌<ℤ◌}
+use Rattle.std.proofs.Common.{sym, ap, ap₂, ◌∙◌, subst}
 use Rattle.ints.specs.Bounds.{within}
 use Rattle.ints.proofs.Known.{known}
-use Rattle.ints.specs.Order.{lt-or-ge}
 use Rattle.ints.specs.Sign.{Under, lex}
 use Rattle.space.specs.declared.Vec3.{Vec3}
 use Rattle.space.specs.Vectors.{dot, cross, plus, normal}
 use Rattle.space.specs.Ranges.{Upto, point_reach, edge_reach, cross_reach, normal_reach}
 use Rattle.space.specs.Verdicts.{Piece}
 use Rattle.verdict_portal.specs.declared.Three.{Three}
+use Rattle.verdict_portal.specs.declared.Slot.{Slot}
+use Rattle.verdict_portal.specs.declared.Slot.TheVariants.{First, Second, Third}
 use Rattle.verdict_portal.specs.Sizes.{big_k, front_under}
 use Rattle.verdict_portal.specs.Exits.{not_behind, x1}
 use Rattle.verdict_portal.specs.Rounds.{Ready, Edges, RoundSays}
 use Rattle.verdict_walk.specs.declared.support.Difference.{Difference}
-use Rattle.verdict_walk.specs.declared.path.Portal.{Portal}
 use Rattle.verdict_walk.specs.declared.path.Ended.{Ended}
 use Rattle.verdict_walk.specs.Points.{Tagged, Supports}
 use Rattle.verdict_walk.specs.PointLaws.{spread_of, spread_upto}
-use Rattle.verdict_walk.specs.Ends.{places_of, Ground, Begun, Walked, Replaced, Corners, WalksOn}
+use Rattle.verdict_walk.specs.Ends.{places_of, Ground, Begun, Walked, replaced, Corners, WalksOn}
 
 -- by which of its two ends a walk ends is one; where it ends may vary
-clash : {A B : Piece} {g q : Vec3} {f : Three} {r s : Ended} → Walked A B g q f r → Walked A B g q f s → r.met ≡ true → s.met ≡ false → ⊥
+clash : {A B : Piece} {g q : Vec3} {f : Three Vec3} {r s : Ended} → Walked A B g q f r → Walked A B g q f s → r.met ≡ true → s.met ≡ false → ⊥
 clash {s = s} v w t u = not_behind s.normal (spread_of v.last) (spread_of v.begun.ofa) (spread_of v.begun.ofb) (spread_of v.begun.ofc) (v.met t) (w.apart u)
 
-pub walked_once : {A B : Piece} {g q : Vec3} {f : Three} {r s : Ended} → Walked A B g q f r → Walked A B g q f s → r.met ≡ s.met
+pub walked_once : {A B : Piece} {g q : Vec3} {f : Three Vec3} {r s : Ended} → Walked A B g q f r → Walked A B g q f s → r.met ≡ s.met
 walked_once {A} {B} {g} {q} {f} {r} {s} v w = go r.met s.met refl refl
   where
     go : (a b : Bool) → r.met ≡ a → s.met ≡ b → r.met ≡ s.met
@@ -34,7 +34,7 @@ walked_once {A} {B} {g} {q} {f} {r} {s} v w = go r.met s.met refl refl
     go false true t u = absurd (clash w v u t)
     go false false t u = t ∙ sym u
 
-pub corners : {A B : Piece} {g q : Vec3} {f v : Three} {t : Portal} → v ≡ places_of t → Begun A B g q f t → Corners v
+pub corners : {A B : Piece} {g q : Vec3} {f v : Three Vec3} {t : Three Difference} → v ≡ places_of t → Begun A B g q f t → Corners v
 corners e b = subst Corners (sym e) (record { ina = b.held.ina; inb = b.held.inb; inc = b.held.inc })
 
 pub point_upto : {A B : Piece} {g : Vec3} {p : Difference} → Ground A B g → Tagged A B g p → Upto point_reach p.at
@@ -47,7 +47,7 @@ edge_upto u v = record { ux = within (search known depth 9) tt; uy = within (sea
 edge_made : {a b x : Vec3} → Upto point_reach a → Upto point_reach b → x ≡ cross a b → (x ≡ cross a b) × Upto edge_reach x
 edge_made u v e = (e, subst (Upto edge_reach) (sym e) (edge_upto u v))
 
-pub edges_made : {t : Three} {x y z : Vec3} → Corners t → x ≡ cross t.b t.c → y ≡ cross t.c t.a → z ≡ cross t.a t.b → Edges t (record { a = x; b = y; c = z })
+pub edges_made : {t : Three Vec3} {x y z : Vec3} → Corners t → x ≡ cross t.b t.c → y ≡ cross t.c t.a → z ≡ cross t.a t.b → Edges t (record { a = x; b = y; c = z })
 edges_made k ex ey ez = record { one = edge_made k.inb k.inc ex; two = edge_made k.inc k.ina ey; last = edge_made k.ina k.inb ez }
 
 pub half_upto : {x y z : Vec3} → Upto edge_reach x → Upto edge_reach y → z ≡ plus x y → Upto cross_reach z
@@ -66,7 +66,7 @@ whole_upto {x} {y} {z} {n} u v w eh en = (is, subst (Upto normal_reach) (sym is)
     go x y z u v w = record { ux = within (search known depth 9) tt; uy = within (search known depth 9) tt; uz = within (search known depth 9) tt }
 
 -- ---- the ends
-module _ {A B : Piece} {g q n : Vec3} {f v x : Three} {t : Portal} {p : Difference} (b : Begun A B g q f t) (ev : v ≡ places_of t) (ex : Edges v x)
+module _ {A B : Piece} {g q n : Vec3} {f v x : Three Vec3} {t : Three Difference} {p : Difference} (b : Begun A B g q f t) (ev : v ≡ places_of t) (ex : Edges v x)
     (en : (n ≡ plus (plus x.a x.b) x.c) × Upto normal_reach n) (s : Supports A B g n p) where
   normal_at : n ≡ normal t.a.at t.b.at t.c.at
   normal_at = en.0 ∙ ap₂ plus (ap₂ plus ex.one.0 ex.two.0) ex.last.0 ∙ ap (λ w. normal w.a w.b w.c) ev
@@ -85,38 +85,21 @@ module _ {A B : Piece} {g q n : Vec3} {f v x : Three} {t : Portal} {p : Differen
   ready k h = subst (λ w. Ready q f w p.at) (sym ev)
       (record { setting = b.setting; held = b.held; inp = point_upto k s.tagged; fore = subst (λ m. pos 0 ≤ℤ lex (dot m p.at) (dot m q)) normal_at h })
 
-  pub walked_met : {r : ℕ} → RoundSays q f v p.at r → r ≡ 0 → Walked A B g q f (record { met = true; portal = t; normal = n; last = p })
-  walked_met {r} u e = record {
+  pub walked_met : RoundSays q f v p.at None → Walked A B g q f (record { met = true; portal = t; normal = n; last = p })
+  walked_met u = record {
     begun = b;
     normal_is = normal_at;
     reach = en.1;
     last = s.tagged;
     apart = λ k. absurd (subst T k tt);
-    met = λ _. (subst (λ w. RoundSays q f w p.at r) ev u).met e;
+    met = λ _. subst (λ w. RoundSays q f w p.at None) ev u;
   }
 
-pub onward : {A B : Piece} {g q : Vec3} {f v : Three} {t u : Portal} {p : Difference} {r : ℕ} → Begun A B g q f t → v ≡ places_of t → Tagged A B g p → RoundSays q f v p.at r → (r ≡ 0 → ⊥)
-    → Replaced t r p u → WalksOn A B g q f t u
-onward {A} {B} {g} {q} {f} {t} {u} {p} {r} b ev tp w n0 k = go (subst (λ x. RoundSays q f x p.at r) ev w) (lt-or-ge r 2)
+pub onward : {A B : Piece} {g q : Vec3} {f v : Three Vec3} {t u : Three Difference} {p : Difference} (r : Slot) → Begun A B g q f t → v ≡ places_of t → Tagged A B g p → RoundSays q f v p.at (Some r)
+    → u ≡ replaced r t p → WalksOn A B g q f t u
+onward {A} {B} {g} {q} {f} {t} {p} r b ev tp w e = subst (WalksOn A B g q f t) (sym e) (go r (subst (λ x. RoundSays q f x p.at (Some r)) ev w))
   where
-    first : RoundSays q f (places_of t) p.at r → r ≡ 1 → WalksOn A B g q f t u
-    first w e = subst (WalksOn A B g q f t) (sym (k.one e)) (record { begun = record { setting = b.setting; held = (w.one e).held; ofa = tp; ofb = b.ofb; ofc = b.ofc }; less = (w.one e).less })
-
-    second : RoundSays q f (places_of t) p.at r → r ≡ 2 → WalksOn A B g q f t u
-    second w e = subst (WalksOn A B g q f t) (sym (k.two e)) (record { begun = record { setting = b.setting; held = (w.two e).held; ofa = b.ofa; ofb = tp; ofc = b.ofc }; less = (w.two e).less })
-
-    third : RoundSays q f (places_of t) p.at r → (r ≡ 1 → ⊥) → (r ≡ 2 → ⊥) → WalksOn A B g q f t u
-    third w n1 n2 =
-        let m = w.rest n0 n1 n2 in subst (WalksOn A B g q f t) (sym (k.rest n1 n2))
-        (record { begun = record { setting = b.setting; held = m.held; ofa = b.ofa; ofb = b.ofb; ofc = tp }; less = m.less })
-
-    go : RoundSays q f (places_of t) p.at r → (r < 2) ⊎ (2 ≤ r) → WalksOn A B g q f t u
-    go w (inl h) = first w (one n0 h)
-      where
-        one : (r ≡ 0 → ⊥) → r < 2 → r ≡ 1
-        one a b = omega arith
-    go w (inr h) = two w (lt-or-ge 2 r)
-      where
-        two : RoundSays q f (places_of t) p.at r → (2 < r) ⊎ (r ≤ 2) → WalksOn A B g q f t u
-        two w (inl l) = third w (λ e. omega arith) (λ e. omega arith)
-        two w (inr l) = second w (omega arith)
+    go : (r : Slot) → RoundSays q f (places_of t) p.at (Some r) → WalksOn A B g q f t (replaced r t p)
+    go First m = record { begun = record { setting = b.setting; held = m.held; ofa = tp; ofb = b.ofb; ofc = b.ofc }; less = m.less }
+    go Second m = record { begun = record { setting = b.setting; held = m.held; ofa = b.ofa; ofb = tp; ofc = b.ofc }; less = m.less }
+    go Third m = record { begun = record { setting = b.setting; held = m.held; ofa = b.ofa; ofb = b.ofb; ofc = tp }; less = m.less }

@@ -8,7 +8,7 @@ use Rattle.space.specs.Vectors.{minus, det}
 use Rattle.space.specs.Verdicts.{Piece, corner_at, widened_at, weighted, Fair}
 use Rattle.verdict_walk.specs.declared.support.Difference.{Difference}
 use Rattle.verdict_walk.specs.declared.path.Ended.{Ended}
-use Rattle.verdict_walk.specs.declared.gather.Gathered.{Gathered}
+use Rattle.space.specs.declared.Pairs.{Pairs}
 use Rattle.verdict_walk.specs.NoPairs.{no_pair, no_pairs}
 
 -- with no gap answers carry cube corner 0
@@ -23,17 +23,17 @@ weighed_pair gap p w = record { first = p.first; cube = named gap p.cube; second
 abbrev pub base_of : ℕ → Piece → Piece → Difference → Vec3
 base_of gap A B p = minus (widened_at gap A p.first (named gap p.cube)) (corner_at B p.second)
 
-abbrev pub nothing_yet : Gathered
+abbrev pub nothing_yet : Pairs
 nothing_yet = record { count = 0; pairs = no_pairs }
 
 -- one point more, unless it weighs nothing
-pub record Pushed (gap : ℕ) (g : Gathered) (p : Difference) (w : ℤ) (r : Gathered) : Type 0 where
+pub record Pushed (gap : ℕ) (g : Pairs) (p : Difference) (w : ℤ) (r : Pairs) : Type 0 where
   pub none : w ≡ pos 0 → r ≡ g
   pub counted : (w ≡ pos 0 → ⊥) → r.count ≡ g.count + 1
   pub stored : (w ≡ pos 0 → ⊥) → r.pairs ≡ set g.pairs g.count (weighed_pair gap p w)
 
 -- what has been gathered of n points, with the sums of its weighted differences
-pub record Gather (gap : ℕ) (A B : Piece) (n : ℕ) (x y z : ℤ) (g : Gathered) : Type 0 where
+pub record Gather (gap : ℕ) (A B : Piece) (n : ℕ) (x y z : ℤ) (g : Pairs) : Type 0 where
   pub size : length g.pairs ≡ 4
   pub few : g.count ≤ n
   pub fair : (p : Pair) → Memᴰ p (take g.count g.pairs) → Fair A B p
@@ -44,15 +44,15 @@ pub record Gather (gap : ℕ) (A B : Piece) (n : ℕ) (x y z : ℤ) (g : Gathere
   pub uncubed : gap ≡ 0 → (k : ℕ) → (get_or g.pairs k no_pair).cube ≡ 0
 
 -- there is room for the next of four
-pub record Room (n : ℕ) (g : Gathered) : Type 0 where
+pub record Room (n : ℕ) (g : Pairs) : Type 0 where
   pub few : g.count ≤ n
   pub size : length g.pairs ≡ 4
 
 -- ---- the weights of a meeting
-pub record Weighed (gap : ℕ) (e : Ended) (r : Gathered) : Type 0 where
-  pub g1 : Gathered
-  pub g2 : Gathered
-  pub g3 : Gathered
+pub record Weighed (gap : ℕ) (e : Ended) (r : Pairs) : Type 0 where
+  pub g1 : Pairs
+  pub g2 : Pairs
+  pub g3 : Pairs
   pub first : Pushed gap nothing_yet e.last (pos 0 -ℤ det e.portal.a.at e.portal.b.at e.portal.c.at) g1
   pub second : Pushed gap g1 e.portal.a (det e.last.at e.portal.b.at e.portal.c.at) g2
   pub third : Pushed gap g2 e.portal.b (det e.portal.a.at e.last.at e.portal.c.at) g3

@@ -22,7 +22,7 @@ use Rattle.space.specs.Verdicts.{Piece, cube_corners, widened_at, difference_of,
 use Rattle.space.proofs.NoGapLaws.{unwidened}
 use Rattle.verdict_walk.specs.declared.support.Difference.{Difference}
 use Rattle.verdict_walk.specs.declared.path.Ended.{Ended}
-use Rattle.verdict_walk.specs.declared.gather.Gathered.{Gathered}
+use Rattle.space.specs.declared.Pairs.{Pairs}
 use Rattle.verdict_walk.specs.NoPairs.{no_pair, no_pairs}
 use Rattle.verdict_walk.specs.Points.{Tagged}
 use Rattle.verdict_walk.specs.Gather.{named, weighed_pair, base_of, nothing_yet, Pushed, Gather, Room, Weighed}
@@ -75,7 +75,7 @@ named_same zero A i c = unwidened A i c ∙ sym (unwidened A i 0)
 named_same (suc gap) A i c = refl
 
 -- ---- one more
-module _ {gap : ℕ} {A B : Piece} {n : ℕ} {x y z w : ℤ} {b : Vec3} {g r : Gathered} {p : Difference} (h : Gather gap A B n x y z g) (room : n < 4)
+module _ {gap : ℕ} {A B : Piece} {n : ℕ} {x y z w : ℤ} {b : Vec3} {g r : Pairs} {p : Difference} (h : Gather gap A B n x y z g) (room : n < 4)
     (t : Tagged A B b p) (nn : pos 0 ≤ℤ w) (most : w ≤ℤ pos weight_most) (u : Pushed gap g p w r) where
   skipped : w ≡ pos 0 → Gather gap A B (n + 1) (x +ℤ w *ℤ (base_of gap A B p).x) (y +ℤ w *ℤ (base_of gap A B p).y) (z +ℤ w *ℤ (base_of gap A B p).z) r
   skipped e = subst (Gather gap A B (n + 1) (x +ℤ w *ℤ (base_of gap A B p).x) (y +ℤ w *ℤ (base_of gap A B p).y) (z +ℤ w *ℤ (base_of gap A B p).z)) (sym (u.none e)) (record {
@@ -131,10 +131,10 @@ module _ {gap : ℕ} {A B : Piece} {n : ℕ} {x y z w : ℤ} {b : Vec3} {g r : G
   gather_more = ⊎_elim (λ k. absurd (clash_ℤ k nn)) (⊎_elim skipped (λ k. taken (λ e. gt_other k e))) (trichotomy w (pos 0))
 
 -- ---- what the code makes
-pub push_none : {gap : ℕ} {g : Gathered} {p : Difference} {w : ℤ} → w ≡ pos 0 → Pushed gap g p w g
+pub push_none : {gap : ℕ} {g : Pairs} {p : Difference} {w : ℤ} → w ≡ pos 0 → Pushed gap g p w g
 push_none e = record { none = λ _. refl; counted = λ f. absurd (f e); stored = λ f. absurd (f e) }
 
-pub push_some : {gap c : ℕ} {g : Gathered} {p : Difference} {w v : ℤ} → (w ≡ pos 0 → ⊥) → c ≡ named gap p.cube → v ≡ w
+pub push_some : {gap c : ℕ} {g : Pairs} {p : Difference} {w v : ℤ} → (w ≡ pos 0 → ⊥) → c ≡ named gap p.cube → v ≡ w
     → Pushed gap g p w (record { count = g.count + 1; pairs = set g.pairs g.count (record { first = p.first; cube = c; second = p.second; weight = v }) })
 push_some {g} {p} f ec e = record {
   none = λ k. absurd (f k);
@@ -142,7 +142,7 @@ push_some {g} {p} f ec e = record {
   stored = λ _. ap₂ (λ d z. set g.pairs g.count (record { first = p.first; cube = d; second = p.second; weight = z })) ec e;
 }
 
-pub room_more : {gap : ℕ} {g r : Gathered} {p : Difference} {w : ℤ} {n : ℕ} → Room n g → Pushed gap g p w r → Room (n + 1) r
+pub room_more : {gap : ℕ} {g r : Pairs} {p : Difference} {w : ℤ} {n : ℕ} → Room n g → Pushed gap g p w r → Room (n + 1) r
 room_more {gap} {g} {r} {p} {w} {n} h u =
     ⊎_elim (λ k. some (λ e. lt_other k e)) (⊎_elim (λ k. subst (Room (n + 1)) (sym (u.none k)) (record { few = let l = h.few in omega arith; size = h.size })) (λ k. some (λ e. gt_other k e)))
     (trichotomy w (pos 0))
@@ -151,11 +151,11 @@ room_more {gap} {g} {r} {p} {w} {n} h u =
     some f = record { few = let l = h.few in let e = u.counted f in omega arith; size = ap length (u.stored f) ∙ length-set g.pairs g.count (weighed_pair gap p w) ∙ h.size }
 
 -- what weighs nothing is not counted
-count_stays : {gap : ℕ} {g r : Gathered} {p : Difference} {w : ℤ} → Pushed gap g p w r → w ≡ pos 0 → r.count ≡ g.count
+count_stays : {gap : ℕ} {g r : Pairs} {p : Difference} {w : ℤ} → Pushed gap g p w r → w ≡ pos 0 → r.count ≡ g.count
 count_stays u e = ap (λ h. h.count) (u.none e)
 
 -- nothing that was gathered is lost
-pub count_grows : {gap : ℕ} {g r : Gathered} {p : Difference} {w : ℤ} → Pushed gap g p w r → g.count ≤ r.count
+pub count_grows : {gap : ℕ} {g r : Pairs} {p : Difference} {w : ℤ} → Pushed gap g p w r → g.count ≤ r.count
 count_grows {g} {r} {p} {w} u =
     ⊎_elim (λ k. some (λ e. lt_other k e)) (⊎_elim (λ k. let e : r.count ≡ g.count = count_stays u k in omega arith) (λ k. some (λ e. gt_other k e))) (trichotomy w (pos 0))
   where
@@ -163,7 +163,7 @@ count_grows {g} {r} {p} {w} u =
     some f = let e = u.counted f in omega arith
 
 -- and no push adds more than one
-count_once : {gap : ℕ} {g r : Gathered} {p : Difference} {w : ℤ} → Pushed gap g p w r → r.count ≤ g.count + 1
+count_once : {gap : ℕ} {g r : Pairs} {p : Difference} {w : ℤ} → Pushed gap g p w r → r.count ≤ g.count + 1
 count_once {g} {r} {p} {w} u =
     ⊎_elim (λ k. some (λ e. lt_other k e)) (⊎_elim (λ k. let e : r.count ≡ g.count = count_stays u k in omega arith) (λ k. some (λ e. gt_other k e))) (trichotomy w (pos 0))
   where
@@ -177,7 +177,7 @@ pub record FourWeigh (e : Ended) : Type 0 where
   pub third : det e.portal.a.at e.last.at e.portal.c.at ≡ pos 0 → ⊥
   pub fourth : det e.portal.a.at e.portal.b.at e.last.at ≡ pos 0 → ⊥
 
-pub four_weigh : {gap : ℕ} {e : Ended} {r : Gathered} → Weighed gap e r → r.count ≡ 4 → FourWeigh e
+pub four_weigh : {gap : ℕ} {e : Ended} {r : Pairs} → Weighed gap e r → r.count ≡ 4 → FourWeigh e
 four_weigh {e} {r} h n = record {
   first = λ z. let k : h.g1.count ≡ 0 = count_stays h.first z in omega (arith, most2, most3, most4);
   second = λ z. let k = count_stays h.second z in omega (arith, most1, most3, most4);
@@ -197,23 +197,23 @@ four_weigh {e} {r} h n = record {
     most4 : r.count ≤ h.g3.count + 1
     most4 = count_once h.fourth
 
-pub room_none : {n : ℕ} {g : Gathered} → g ≡ nothing_yet → Room n g
+pub room_none : {n : ℕ} {g : Pairs} → g ≡ nothing_yet → Room n g
 room_none {n} e = subst (Room n) (sym e) (record { few = omega arith; size = refl })
 
-pub room_le : {m n : ℕ} {g : Gathered} → m ≤ n → Room m g → Room n g
+pub room_le : {m n : ℕ} {g : Pairs} → m ≤ n → Room m g → Room n g
 room_le h r = record { few = let k = r.few in omega arith; size = r.size }
 
-pub pushed_as : {gap : ℕ} {g h r : Gathered} {p : Difference} {w v : ℤ} → g ≡ h → w ≡ v → Pushed gap g p w r → Pushed gap h p v r
+pub pushed_as : {gap : ℕ} {g h r : Pairs} {p : Difference} {w v : ℤ} → g ≡ h → w ≡ v → Pushed gap g p w r → Pushed gap h p v r
 pushed_as {gap} {g} {h} {r} {p} {w} {v} e k u = subst (λ x. Pushed gap x p v r) e (subst (λ x. Pushed gap g p x r) k u)
 
 -- ---- what is gathered is one
-pushed_once : {gap : ℕ} {g q r : Gathered} {p : Difference} {w : ℤ} → Pushed gap g p w q → Pushed gap g p w r → q ≡ r
+pushed_once : {gap : ℕ} {g q r : Pairs} {p : Difference} {w : ℤ} → Pushed gap g p w q → Pushed gap g p w r → q ≡ r
 pushed_once {g} {q} {r} {p} {w} u v = ⊎_elim (λ k. some (λ e. lt_other k e)) (⊎_elim (λ k. u.none k ∙ sym (v.none k)) (λ k. some (λ e. gt_other k e))) (trichotomy w (pos 0))
   where
     some : (w ≡ pos 0 → ⊥) → q ≡ r
     some f = λ i. record { count = (u.counted f ∙ sym (v.counted f)) i; pairs = (u.stored f ∙ sym (v.stored f)) i }
 
-pub weighed_once : {gap : ℕ} {e : Ended} {q r : Gathered} → Weighed gap e q → Weighed gap e r → q ≡ r
+pub weighed_once : {gap : ℕ} {e : Ended} {q r : Pairs} → Weighed gap e q → Weighed gap e r → q ≡ r
 weighed_once a b =
     let one = pushed_once a.first b.first in
     let two = pushed_once (pushed_as one refl a.second) b.second in

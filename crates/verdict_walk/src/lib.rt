@@ -6,6 +6,6 @@ mod gather;
 mod path;
 mod support;
 
-pub use gather::{Gathered, gathered_of, no_pairs};
+pub use gather::gathered_of;
 pub use path::{Ended, Portal, walk};
 pub use support::{Difference, corner, cube_of, signed};

@@ -8,7 +8,7 @@ ghost use Rattle.space.specs.Verdicts.{corner_count, corner_at};
 ghost use Rattle.space.specs.Lists.{Placed};
 ghost use Rattle.verdict_walk.specs.Points.{bit_of, cube_of, Farthest, Signed, Box, Boxed, Supports};
 
-use space::{Vec3, dot, minus, opposite, plus};
+use space::Vec3;
 
 // A point of the difference of two pieces, with the numbers of the two corners that it comes from, and of the corner of the box.
 #[derive(Clone, Copy)]
@@ -19,12 +19,6 @@ pub struct Difference {
     pub second: usize,
 }
 
-fn wide(x: i32) -> i64
-    ensures { result ≡ x }
-{
-    x as i64
-}
-
 // Corner i of a list.
 pub fn corner(s: &[i32], i: usize) -> Vec3
     requires placed { Placed s.now }
@@ -32,9 +26,9 @@ pub fn corner(s: &[i32], i: usize) -> Vec3
     ensures { (result ≡ corner_at s.now i) × Upto placed_reach result }
 {
     Vec3 {
-        x: wide(s[3 * i]),
-        y: wide(s[3 * i + 1]),
-        z: wide(s[3 * i + 2]),
+        x: i64::from(s[3 * i]),
+        y: i64::from(s[3 * i + 1]),
+        z: i64::from(s[3 * i + 2]),
     }
 }
 
@@ -44,17 +38,14 @@ fn farthest(d: Vec3, s: &[i32]) -> usize
     requires placed { Placed s.now }
     ensures { Farthest d s.now result }
 {
-    let n = s.len() / 3;
     let mut best = 0;
-    let mut far = dot(d, corner(s, 0));
-    let mut i = 1;
-    while i < n {
-        let v = dot(d, corner(s, i));
+    let mut far = d.dot(corner(s, 0));
+    for i in 1..s.len() / 3 {
+        let v = d.dot(corner(s, i));
         if far < v {
             far = v;
             best = i;
         }
-        i += 1;
     }
     best
 }
@@ -64,10 +55,7 @@ pub fn signed(n: i64, g: i64) -> i64
     requires { Within gap_most g }
     ensures { Signed n g result }
 {
-    if n < 0 {
-        return -g;
-    }
-    g
+    if n < 0 { -g } else { g }
 }
 
 // The corner of the box that is farthest along n.
@@ -75,16 +63,10 @@ fn boxed(n: Vec3, g: Vec3) -> Vec3
     requires { Upto normal_reach n × Upto gap_most g }
     ensures { Boxed n g result }
 {
-    let nx = n.x;
-    let ny = n.y;
-    let nz = n.z;
-    let gx = g.x;
-    let gy = g.y;
-    let gz = g.z;
     Vec3 {
-        x: signed(nx, gx),
-        y: signed(ny, gy),
-        z: signed(nz, gz),
+        x: signed(n.x, g.x),
+        y: signed(n.y, g.y),
+        z: signed(n.z, g.z),
     }
 }
 
@@ -92,10 +74,7 @@ fn boxed(n: Vec3, g: Vec3) -> Vec3
 fn bit_of(along: i64) -> usize
     ensures { (result ≡ bit_of along) × (result < 2) }
 {
-    if along < 0 {
-        return 0;
-    }
-    1
+    usize::from(along >= 0)
 }
 
 // The number of the box's corner that is farthest along n.
@@ -103,10 +82,7 @@ pub fn cube_of(n: Vec3) -> usize
     requires { Upto normal_reach n }
     ensures { result ≡ cube_of n }
 {
-    let x = n.x;
-    let y = n.y;
-    let z = n.z;
-    4 * bit_of(x) + 2 * bit_of(y) + bit_of(z)
+    4 * bit_of(n.x) + 2 * bit_of(n.y) + bit_of(n.z)
 }
 
 // The point of the difference that is farthest along n: the farthest corner of the first piece, the farthest of the second against n, the farthest of the box.
@@ -115,14 +91,10 @@ pub fn support(n: Vec3, g: Vec3, first: &[i32], second: &[i32]) -> Difference
     requires placed { Placed first.now × Placed second.now }
     ensures { Supports first.now second.now g n result }
 {
-    let against = opposite(n);
     let i = farthest(n, first);
-    let j = farthest(against, second);
-    let a = corner(first, i);
-    let b = corner(second, j);
-    let at = plus(minus(a, b), boxed(n, g));
+    let j = farthest(-n, second);
     Difference {
-        at: at,
+        at: corner(first, i) - corner(second, j) + boxed(n, g),
         first: i,
         cube: cube_of(n),
         second: j,

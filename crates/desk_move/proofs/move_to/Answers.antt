@@ -2,8 +2,7 @@
 -- The placement is the one that `moved_to` names.
 use mathlib.Core.Path.{◌≡◌, ap, ◌∙◌}
 use lib.IntN.{ℤ}
-use mir.Syntax.{w32}
-use mir.ValLaws.{to_z-of_z}
+use mir.Facts.{to_z-of_z}
 use Rattle.desk.specs.Commands.{moved_to}
 use Rattle.desk_move.specs.Moving.{may_be, put_be, moved_by_lem}
 use Rattle.desk_move.proofs.move_to.Goals as goal
@@ -14,21 +13,17 @@ moved_to-q-requires c =
 
 pub put_place-requires-clause-may_put : goal.put_place-requires-clause-may_put
 put_place-requires-clause-may_put c =
-    let put_is : let a = c.args in c.moved_to-q.result ≡ moved_to a.places.now a.place a.turn a.o =
-    c.moved_to-q.ensures ∙ ap (λ (t : ℤ). moved_to c.args.places.now c.args.place t c.args.o) (to_z-of_z w32 c.args.turn c.ranges.turn) in
-    may_be (put_is) c.requires.may_turn.put
+    let a = c.args in
+    let places = a.desk.now.places.now in
+    let put_is : c.moved_to-q.result ≡ moved_to places a.place a.turn a.o =
+    c.moved_to-q.ensures ∙ ap (λ (t : ℤ). moved_to places a.place t a.o) (to_z-of_z c.ranges.turn) in
+    may_be put_is c.requires.may_turn.put
 
-pub put_place-requires-clause-worked : goal.put_place-requires-clause-worked
-put_place-requires-clause-worked c =
-    c.requires.worked
-
-pub count_marks-requires : goal.count_marks-requires
-count_marks-requires c =
-    c.requires.may_turn.taken.place
-
-pub returns : goal.returns
-returns c =
-    let put_is : let a = c.args in c.moved_to-q.result ≡ moved_to a.places.now a.place a.turn a.o =
-    c.moved_to-q.ensures ∙ ap (λ (t : ℤ). moved_to c.args.places.now c.args.place t c.args.o) (to_z-of_z w32 c.args.turn c.ranges.turn) in
+pub returns-clause-moved : goal.returns-clause-moved
+returns-clause-moved c =
+    let a = c.args in
+    let places = a.desk.now.places.now in
+    let put_is : c.moved_to-q.result ≡ moved_to places a.place a.turn a.o =
+    c.moved_to-q.ensures ∙ ap (λ (t : ℤ). moved_to places a.place t a.o) (to_z-of_z c.ranges.turn) in
     let e = c.put_place.ensures in
-    moved_by_lem c.requires.may_turn (put_be (put_is) e.put) c.requires.worked.keyed e.keyed c.count_marks.ensures
+    moved_by_lem c.requires.may_turn (put_be put_is e.put) c.requires.worked.keyed e.keyed c.count_marks.ensures

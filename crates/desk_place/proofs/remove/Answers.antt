@@ -1,37 +1,31 @@
 -- `desk_place::remove`: the order of the desk, the place, and then it is emptied.
 -- Assumes nothing.
-use mathlib.Core.Path.{refl}
-use mathlib.Core.Logic.{inl}
-use native.Mathlib.Omega.{arith}
 use borrow.Author.Tests.{not-false}
 use mir.Facts.{to_z-of_z}
-use Rattle.limits.specs.DecidesLaws.{unless_taken, unless_left}
-use Rattle.desk_state.specs.Desk.{desk_of}
-use Rattle.desk.specs.CommandLaws.{refuses}
+use Rattle.std.proofs.lemmas.Result.{err_from_is_err_and}
+use Rattle.limits.specs.DecidesLaws.{unless_left}
+use Rattle.desk_state.specs.Lent.{of_places}
 use Rattle.desk_place.specs.Placing.{remove_refused, may_remove, removed}
 use Rattle.desk_place.proofs.remove.Goals as goal
 
-pub returns-then-not-desk_tested : goal.returns-then-not-desk_tested
-returns-then-not-desk_tested c =
-    refuses (inl (unless_taken c.desk_tested.ensures.decided c.if-not-desk_tested.true-raw, refl)) (omega arith)
-
-pub returns-then-number-ne-DONE : goal.returns-then-number-ne-DONE
-returns-then-number-ne-DONE c =
+pub returns-in_err-p-clause-removed : goal.returns-in_err-p-clause-removed
+returns-in_err-p-clause-removed c =
     let a = c.args in
-    remove_refused (desk_of a.shapes.now a.places.now a.rows.now a.book.now a.marks.now) a.place (to_z-of_z c.ranges.place)
-    (unless_left c.desk_tested.ensures.decided c.if-not-desk_tested.false-raw) c.taken_refusal-number.result c.taken_refusal-number.ensures c.if-number-ne-DONE.true
+    let p = err_from_is_err_and c.from_residual.result c.from_residual.ensures.1 in
+    rw (p.1, p.2)
+    (remove_refused (of_places a.desk.now) a.place (to_z-of_z c.ranges.place) (unless_left c.tested.ensures.decided c.if-not-tested.false-raw) c.in_err-p.ensures.asked)
 
 pub empty_place-requires-clause-in_order : goal.empty_place-requires-clause-in_order
 empty_place-requires-clause-in_order c =
-    let a = c.args in may_remove (desk_of a.shapes.now a.places.now a.rows.now a.book.now a.marks.now) a.place (to_z-of_z c.ranges.place)
-    (unless_left c.desk_tested.ensures.decided c.if-not-desk_tested.false-raw) c.taken_refusal-number.result c.taken_refusal-number.ensures c.if-number-ne-DONE.false c.index_of-p.ensures
+    let a = c.args in
+    may_remove (of_places a.desk.now) a.place (to_z-of_z c.ranges.place) (unless_left c.tested.ensures.decided c.if-not-tested.false-raw)
+    c.in_ok-p.ensures.asked c.in_ok-p.ensures.index
 
 pub empty_place-requires-clause-worked : goal.empty_place-requires-clause-worked
-empty_place-requires-clause-worked c =
-    let a = c.args in c.desk_tested.ensures.worked (not-false _ c.if-not-desk_tested.false-raw)
+empty_place-requires-clause-worked c = c.tested.ensures.worked (not-false _ c.if-not-tested.false-raw)
 
-pub returns : goal.returns
-returns c =
+pub returns-clause-removed : goal.returns-clause-removed
+returns-clause-removed c =
     let a = c.args in
-    removed (desk_of a.shapes.now a.places.now a.rows.now a.book.now a.marks.now) a.place (to_z-of_z c.ranges.place)
-    (unless_left c.desk_tested.ensures.decided c.if-not-desk_tested.false-raw) c.taken_refusal-number.result c.taken_refusal-number.ensures c.if-number-ne-DONE.false c.index_of-p.ensures c.empty_place.ensures
+    removed (of_places a.desk.now) a.place (to_z-of_z c.ranges.place) (unless_left c.tested.ensures.decided c.if-not-tested.false-raw)
+    c.in_ok-p.ensures.asked c.in_ok-p.ensures.index c.empty_place.ensures.emptied

@@ -17,32 +17,32 @@ use Rattle.desk_tell.proofs.tell.Goals as goal
 abbrev Good : Command → Type 0
 Good k = Is (row the_type) k (val the_type the_laws k ∷ [])
 
-pub returns-in-Load : goal.returns-in-Load
-returns-in-Load c =
+pub returns-in-Load-clause-does : goal.returns-in-Load-clause-does
+returns-in-Load-clause-does c =
     let e = c.in-Load.is in
-    let g = subst Good e c.well_formed.0 in
-    does_load c.args.command c.args.numbers.now e (element w32 _ g.1.1.1.1.0.1) c.load.ensures
+    let g = subst Good e c.well_formed.1.0 in
+    does_load c.args.command c.args.numbers.now e (element w32 _ g.1.1.1.1.0.1) c.load_shape.ensures.does
 
-pub returns-in-Place : goal.returns-in-Place
-returns-in-Place c =
+pub returns-in-Place-clause-does : goal.returns-in-Place-clause-does
+returns-in-Place-clause-does c =
     let e = c.in-Place.is in
-    let g = subst Good e c.well_formed.0 in
-    does_place c.args.command c.args.numbers.now e (element w32 _ g.1.1.1.1.0.1) c.place.ensures
+    let g = subst Good e c.well_formed.1.0 in
+    does_place c.args.command c.args.numbers.now e (element w32 _ g.1.1.1.1.0.1) c.place_at.ensures.does
 
-pub returns-in-Move : goal.returns-in-Move
-returns-in-Move c =
+pub returns-in-Move-clause-does : goal.returns-in-Move-clause-does
+returns-in-Move-clause-does c =
     let e = c.in-Move.is in
-    let g = subst Good e c.well_formed.0 in
-    does_move c.args.command c.args.numbers.now e (element w32 _ g.1.1.1.1.0.1) (element w32 _ g.1.1.1.1.1.0.1) c.move_piece.ensures
+    let g = subst Good e c.well_formed.1.0 in
+    does_move c.args.command c.args.numbers.now e (element w32 _ g.1.1.1.1.0.1) (element w32 _ g.1.1.1.1.1.0.1) c.move_at.ensures.does
 
-pub returns-in-Remove : goal.returns-in-Remove
-returns-in-Remove c =
+pub returns-in-Remove-clause-does : goal.returns-in-Remove-clause-does
+returns-in-Remove-clause-does c =
     let e = c.in-Remove.is in
-    let g = subst Good e c.well_formed.0 in
-    does_remove c.args.command c.args.numbers.now e (element w32 _ g.1.1.1.1.0.1) c.remove.ensures
+    let g = subst Good e c.well_formed.1.0 in
+    does_remove c.args.command c.args.numbers.now e (element w32 _ g.1.1.1.1.0.1) c.remove_at.ensures.does
 
-pub returns-in-Gap : goal.returns-in-Gap
-returns-in-Gap c =
+pub returns-in-Gap-clause-does : goal.returns-in-Gap-clause-does
+returns-in-Gap-clause-does c =
     let e = c.in-Gap.is in
-    let g = subst Good e c.well_formed.0 in
-    does_gap c.args.command c.args.numbers.now e (element w32 _ g.1.1.1.1.0.1) c.set_gap.ensures
+    let g = subst Good e c.well_formed.1.0 in
+    does_gap c.args.command c.args.numbers.now e (element w32 _ g.1.1.1.1.0.1) c.set_book.ensures.does

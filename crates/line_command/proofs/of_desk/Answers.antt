@@ -11,4 +11,4 @@ returns-in_default c = inr (c.in_default.ensures, refl)
 pub returns : goal.returns
 returns c =
     let a = c.args in
-    desk_numbers a.word.now (behind a.line.now a.end) a.numbers.now c.numbers_behind.new.room c.in-At.n c.numbered.result c.in-At.ensures {k = c.in-At.n - 0} (omega arith) c.numbered.ensures
+    desk_numbers a.word.now (behind a.line.now a.end) a.numbers.now c.numbers_behind.new.room c.in-Some.n c.numbered.result c.in-Some.ensures {k = c.in-Some.n - 0} (omega arith) c.numbered.ensures

@@ -17,5 +17,5 @@ returns o c =
     record {
       room = a.numbers.now;
       size = refl;
-      answered = answered_kept h (line ∙ ap (λ (k : ℕ). bare (take k a.held.now)) e) c.answer-next.ensures;
+      answered = answered_kept h (line ∙ ap (λ (k : ℕ). bare (take k a.held.now)) e) c.answer.ensures;
     }

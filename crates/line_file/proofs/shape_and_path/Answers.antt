@@ -22,7 +22,7 @@ returns c =
     let e : w.result ≡ length (first_word line) = omega (arith, w.ensures.place) in
     let long : v.result - (w.result + 1) ≡ length (first_word back) = omega (arith, v.ensures.place, more) in
     let word : take (v.result - (w.result + 1)) back ≡ first_word back = ap (λ (k : ℕ). take k back) long ∙ first_take space_byte back in
-    let reads = c.in-Value.ensures in
+    let reads = c.in-Some.ensures in
     let names = names_shape line w.result v.result e (omega (arith, more)) v.ensures.place (omega (arith, c.if-line-next.false)) word reads in
-    let same = to_z-of_z (fits_in w32 c.in-Value.shape 2147483648 2147483647 reads.1 (omega arith) (omega arith)) in
+    let same = to_z-of_z (fits_in w32 c.in-Some.shape 2147483648 2147483647 reads.1 (omega arith) (omega arith)) in
     (subst (NamesShape line) (sym same) names, omega (arith, c.if-line-next.false))

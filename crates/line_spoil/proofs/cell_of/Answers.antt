@@ -22,7 +22,7 @@ pub returns-then-n-ne2 : goal.returns-then-n-ne2
 returns-then-n-ne2 c =
     let a = c.args in
     let next = next-is a.line.now a.end c.word_end-name.result c.if-line-end.false c.word_end-name.ensures.place in
-    cell_count next a.numbers.now c.numbers_behind.new.room c.in-At.ensures c.if-n-ne2.true
+    cell_count next a.numbers.now c.numbers_behind.new.room c.in-Some.ensures c.if-n-ne2.true
 
 pub returns : goal.returns
 returns c =
@@ -32,5 +32,5 @@ returns c =
     let s = drop (a.end + 1) a.line.now in
     let long : c.word_end-name.result - (a.end + 1) ≡ length (first_word s) = omega (arith, c.word_end-name.ensures.place, c.if-line-end.false) in
     let word : take (c.word_end-name.result - (a.end + 1)) s ≡ first_word s = ap (λ (k : ℕ). take k s) long ∙ first_take space_byte s in
-    cell_two next a.numbers.now exit c.in-At.ensures c.if-n-ne2.false
+    cell_two next a.numbers.now exit c.in-Some.ensures c.if-n-ne2.false
     (subst (λ (l : List ℕ). CellAt l (get_or exit 0 (pos 0)) (get_or exit 1 (pos 0)) c.of_numbers.result) word c.of_numbers.ensures)

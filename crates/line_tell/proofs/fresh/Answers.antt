@@ -13,10 +13,10 @@ returns c =
     let n = c.at_most-m.result in
     let m = min Limits.marks (length a.marks.now) in
     let lent : n - 0 ≡ m = omega (arith, c.at_most-m.ensures.is) in
-    let new = c.start.new in
+    let new = c.started.new in
     tells_lent Start 0 [] [] m (n - 0)
     (desk_of a.shapes.now a.places.now a.rows.now a.book.now a.marks.now)
     (desk_of new.shapes new.places new.rows new.book (new.marks ++ drop (n - 0) a.marks.now))
-    c.start.result new.marks refl lent (omega (arith, c.start.auto.marks))
+    c.started.result new.marks refl lent (omega (arith, c.started.auto.marks))
     refl
-    c.start.ensures
+    c.started.ensures

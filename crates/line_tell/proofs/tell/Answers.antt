@@ -11,10 +11,10 @@ returns c =
     let n = c.at_most-m.result in
     let m = min (get_or a.lent.now 1 0) (length a.marks.now) in
     let lent : n - 0 ≡ m = omega (arith, c.at_most-m.ensures.is) in
-    let new = c.tell-outcome.new in
+    let new = c.told-answer.new in
     tells_lent a.command a.count a.numbers.now _ m (n - 0)
     (desk_of a.shapes.now a.places.now a.rows.now a.book.now a.marks.now)
     (desk_of new.shapes new.places new.rows new.book (new.marks ++ drop (n - 0) a.marks.now))
-    c.tell-outcome.result new.marks c.behind_first-corners.ensures lent (omega (arith, c.tell-outcome.auto.marks))
+    c.told-answer.result new.marks c.behind_first-corners.ensures lent (omega (arith, c.told-answer.auto.marks))
     refl
-    c.tell-outcome.ensures
+    c.told-answer.ensures

@@ -1,12 +1,7 @@
--- The cells without the gap stay the same list.
-use mathlib.Core.Path.{◌≡◌}
-use Prim.Native.Nat.{◌<◌}
-use lib.ListN.{length}
+-- The cells without the gap, which is right above those still to be passed, stay the same list.
+use Rattle.std.proofs.Common.{◌≡◌, ◌≤◌, length}
 use Rattle.marks_keep.specs.Slide.{without}
 use Rattle.marks_keep.proofs.carry_down.Given as goal
 
-abbrev pub invariant-loop-cell : goal.invariant-loop-cell
-invariant-loop-cell l = (l.cell < length l.initial.part) × (length l.part ≡ length l.initial.part) × (without l.cell l.part ≡ without l.from l.initial.part)
-
-abbrev pub decreases-loop-cell : goal.decreases-loop-cell
-decreases-loop-cell l = l.cell
+abbrev pub invariant-loop-below : goal.invariant-loop-below
+invariant-loop-below l = (l.below ≤ l.from) × (length l.part ≡ length l.initial.part) × (without l.below l.part ≡ without l.from l.initial.part)

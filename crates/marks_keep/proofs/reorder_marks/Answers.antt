@@ -9,6 +9,6 @@ returns c =
     let rx = c.reorder in
     let ry = c.reorder-2 in
     let rz = c.reorder-3 in
-    all_reordered (three_lent (Reordered a.place a.new_x a.x.now rx.new.keys) (Reordered a.place a.new_y a.y.now ry.new.keys)
-    (Reordered a.place a.new_z a.z.now rz.new.keys) a.marks.now rx.new.part ry.new.part rz.new.part c.requires.0
+    all_reordered (three_lent (Reordered a.place a.new.x a.keys.now.x rx.new.keys) (Reordered a.place a.new.y a.keys.now.y ry.new.keys)
+    (Reordered a.place a.new.z a.keys.now.z rz.new.keys) a.marks.now rx.new.part ry.new.part rz.new.part c.requires.0
     rx.ensures rx.auto.part ry.ensures ry.auto.part rz.ensures rz.auto.part)

@@ -1,27 +1,17 @@
--- Each round looks at one cell.
-use borrow.Author.Rules.{rules}
-use mathlib.Core.Path.{refl, sym, ◌∙◌}
-use native.Mathlib.Omega.{arith}
-use Rattle.marks_test.proofs.Loops.{not_blank, blank-more, blank_done}
+-- Each is no_mark, or one is not.
+use Rattle.std.proofs.Common.{refl, eqb, rules, tests}
+use Rattle.std.proofs.lemmas.List.Recursion.{same_from_clauses}
+use Rattle.std.proofs.lemmas.Iterator.{YieldsList-from_slice}
+use Rattle.std.proofs.lemmas.Iterator.Search.{all_from_yields_List}
+use Rattle.std.specs.List.{list_all}
+use Rattle.std.proofs.Common.{◌∙◌, ◌&&◌}
+use Rattle.limits.specs.Limits
+use Rattle.marks_test.specs.Tested.{blank}
 use Rattle.marks_test.proofs.is_blank.Goals as goal
 
-pub loop-i-init : goal.loop-i-init
-loop-i-init c = (search rules, refl)
-
-pub returns-then-part-i : goal.returns-then-part-i
-returns-then-part-i c =
-    let a = c.args in
-    let l = c.loop-i in
-    sym (not_blank l.i a.part.now (omega arith) c.if-part-i.true) ∙ l.invariant.1
-
-pub loop-i-preserved : goal.loop-i-preserved
-loop-i-preserved c =
-    let a = c.args in
-    let l = c.loop-i in
-    (search rules, blank-more l.i a.part.now (omega arith) c.if-part-i.false ∙ l.invariant.1)
-
 pub returns : goal.returns
+unfolding blank
 returns c =
-    let a = c.args in
-    let l = c.loop-i in
-    sym (blank_done l.i a.part.now (omega arith) (omega arith)) ∙ l.invariant.1
+    let xs = c.args.part.now in
+    all_from_yields_List (λ x. eqb x Limits.no_mark) _ _ c.all.result c.all.ensures.ran (YieldsList-from_slice xs cc) (λ x b q k. search (rules, tests))
+    ∙ same_from_clauses (list_all (λ x. eqb x Limits.no_mark)) blank (λ x b. eqb x Limits.no_mark && b) refl (λ _ _. refl) (λ _ _. refl) xs

@@ -1,5 +1,4 @@
--- `menus::line_start` meets its contract. The invariant: line k starts where the line does that is `left` lines on from the start so far.
--- The measure is how many lines are left to pass.
+-- `menus::line_start` meets its contract: each turn passes a line, and the text's end is where line k starts that is not there.
 use Prim.Native.Nat.{ℕ, suc, ◌≤◌, ◌<◌, ◌+◌, ◌-◌, min}
 use mathlib.Core.List.{List}
 use mathlib.Core.Path.{◌≡◌, ap}
@@ -27,27 +26,32 @@ module _ (s : List ℕ) (at left end : ℕ) (here : at ≤ length s) (some : 0 <
       let d = drop-drop (suc (length (first_line (drop at s)))) at s in
       omega (arith, ap (start_of (drop at s)) more, z, ap (λ (t : List ℕ). start_of t (left - 1)) d, ap (λ (j : ℕ). start_of (drop j s) (left - 1)) k)
 
-pub loop-left-init : goal.loop-left-init
-loop-left-init c = (omega arith, omega arith)
+pub loop-passed-init : goal.loop-passed-init
+loop-passed-init c = let z : c.args.k - 0 ≡ c.args.k = omega arith in (omega arith, omega (arith, ap (start_of c.args.text.now) z))
 
 pub returns-then-end-text : goal.returns-then-end-text
 returns-then-end-text c =
     let h = c.part_end-end in
-    let z = last c.args.text.now c.loop-left.start c.loop-left.left h.result c.loop-left.invariant.0 c.loop-left-test.true h.ensures.place in
-    omega (arith, c.loop-left.invariant.1, z c.if-end-text.true, c.if-end-text.true)
+    let l = c.loop-passed in
+    let z = last c.args.text.now l.start (c.args.k - l._passed) h.result l.invariant.0 (omega arith) h.ensures.place in
+    omega (arith, l.invariant.1, z c.if-end-text.true, c.if-end-text.true)
 
 pub overflow_add-start : goal.overflow_add-start
 overflow_add-start c = let h = c.part_end-end in omega (arith, h.ensures.within, c.if-end-text.false, c.well_formed)
 
-pub loop-left-preserved : goal.loop-left-preserved
-loop-left-preserved c =
+pub loop-passed-preserved : goal.loop-passed-preserved
+loop-passed-preserved c =
     let h = c.part_end-end in
-    let z = next c.args.text.now c.loop-left.start c.loop-left.left h.result c.loop-left.invariant.0 c.loop-left-test.true h.ensures.place in
-    let n : h.result < length c.args.text.now = omega (arith, h.ensures.within, c.if-end-text.false) in
-    (omega arith, omega (arith, c.loop-left.invariant.1, z n))
+    let l = c.loop-passed in
+    let s = c.args.text.now in
+    let z = next s l.start (c.args.k - l._passed) h.result l.invariant.0 (omega arith) h.ensures.place in
+    let n : h.result < length s = omega (arith, h.ensures.within, c.if-end-text.false) in
+    let k : c.args.k - l._passed - 1 ≡ c.args.k - (l._passed + 1) = omega arith in
+    (omega arith, omega (arith, l.invariant.1, z n, ap (start_of (drop (h.result + 1) s)) k))
 
 pub returns : goal.returns
 returns c =
     let s = c.args.text.now in
-    let z : c.loop-left.left ≡ 0 = omega (arith, c.loop-left-test.false) in
-    omega (arith, c.loop-left.invariant.1, ap (start_of (drop c.loop-left.start s)) z, start_zero (drop c.loop-left.start s))
+    let l = c.loop-passed in
+    let z : c.args.k - l._passed ≡ 0 = omega arith in
+    omega (arith, l.invariant.1, ap (start_of (drop l.start s)) z, start_zero (drop l.start s))

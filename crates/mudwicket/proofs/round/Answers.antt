@@ -7,4 +7,4 @@ pub returns-then-input-n : goal.returns-then-input-n
 returns-then-input-n o c = λ part h. record { bytes = []; feeds = feeds_none h }
 
 pub returns : goal.returns
-returns o c = λ part h. record { bytes = _; feeds = (c.feed-place.ensures part h).feeds }
+returns o c = λ part h. record { bytes = _; feeds = (c.feed-more.ensures part h).feeds }

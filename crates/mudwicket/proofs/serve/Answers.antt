@@ -5,7 +5,7 @@ use Rattle.line_feed.specs.ServedLaws.{feeds_room, some-none, some_more, all_lin
 use Rattle.mudwicket.proofs.serve.Goals as goal
 
 pub loop-rounds-init : goal.loop-rounds-init
-loop-rounds-init o c = (some-none c.requires, refl, refl, refl, refl, refl, refl)
+loop-rounds-init o c = (some-none c.requires, refl, refl, refl, refl, refl)
 
 pub loop-rounds-preserved : goal.loop-rounds-preserved
 loop-rounds-preserved o c =
@@ -13,13 +13,12 @@ loop-rounds-preserved o c =
     let f = c.round-r in
     let h = l.invariant.0 in
     let x = f.ensures _ h.feeds.holds in (
-      some_more h (record { bytes = x.bytes; feeds = feeds_room l.invariant.5 x.feeds }),
+      some_more h (record { bytes = x.bytes; feeds = feeds_room l.invariant.4 x.feeds }),
       f.auto.input ∙ l.invariant.1,
       f.auto.held ∙ l.invariant.2,
-      f.auto.out ∙ l.invariant.3,
-      f.auto.texts ∙ l.invariant.4,
-      f.auto.numbers ∙ l.invariant.5,
-      f.auto.marks ∙ l.invariant.6,
+      f.auto.texts ∙ l.invariant.3,
+      f.auto.numbers ∙ l.invariant.4,
+      f.auto.marks ∙ l.invariant.5,
     )
 
 pub returns-then-r-2 : goal.returns-then-r-2
@@ -29,5 +28,5 @@ pub returns : goal.returns
 returns o c =
     let l = c.loop-rounds in
     let h = l.invariant.0 in
-    let s = c.answer_held-at.ensures _ h.feeds.holds in
-    all_lines h (record { room = s.room; size = s.size ∙ l.invariant.5; answered = s.answered })
+    let s = c.answer_held.ensures _ h.feeds.holds in
+    all_lines h (record { room = s.room; size = s.size ∙ l.invariant.4; answered = s.answered })

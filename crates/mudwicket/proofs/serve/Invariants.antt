@@ -12,7 +12,6 @@ invariant-loop-rounds o l =
     l.held l.r.kept
     × (length l.input ≡ length l.initial.input)
     × (length l.held ≡ length l.initial.held)
-    × (length l.out ≡ length l.initial.out)
     × (length l.texts ≡ length l.initial.texts)
     × (length l.numbers ≡ length l.initial.numbers)
     × (length l.marks ≡ length l.initial.marks)

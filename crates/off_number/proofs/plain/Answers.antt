@@ -1,10 +1,7 @@
 -- `off_number::plain` meets its contract: a number starts with a digit.
-use mathlib.Core.Path.{sym, ◌∙◌, subst}
-use Rattle.off_number.specs.Reading.{PlainAs}
+use native.Mathlib.Omega.{arith}
 use Rattle.off_number.proofs.ReadingLaws.{no_digits}
 use Rattle.off_number.proofs.plain.Goals as goal
 
-pub returns-then-n-eq0 : goal.returns-then-n-eq0
-returns-then-n-eq0 c =
-    let text = c.args.text.now in
-    subst (PlainAs text) (sym c.no_number.ensures) (no_digits text (sym c.digits-whole.ensures.count ∙ c.if-n-eq0.true))
+pub returns-then-whole-eq0 : goal.returns-then-whole-eq0
+returns-then-whole-eq0 c = no_digits c.args.text.now (omega (arith, c.digits-whole.ensures.count, c.if-whole-eq0.true))

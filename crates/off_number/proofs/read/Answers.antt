@@ -1,39 +1,43 @@
 -- `off_number::read` meets its contract: the digits behind the minus, or the word itself where it does not start with one.
-use Prim.Native.Nat.{ℕ, ◌<◌, ◌-◌}
-use mathlib.Core.Path.{◌≡◌, sym, ap, subst}
-use mathlib.Core.List.{List, [], ◌∷◌}
+use Prim.Native.Nat.{ℕ, ◌≤◌}
+use mathlib.Core.List.{[], ◌∷◌}
+use mathlib.Core.Path.{◌≡◌}
+use lib.IntN.{pos, neg_ℤ, ◌-ℤ◌}
+use mir.Syntax.{w32}
+use mir.Val.{to_z, of_z}
 use native.Mathlib.Omega.{arith}
-use lib.ListN.{length, get_or, drop, length-drop}
-use lib.Seq.{take_all}
-use Rattle.off_number.specs.OffNumber.{NumberReadAs}
-use Rattle.off_number.specs.Reading.{PlainAs}
-use Rattle.off_number.proofs.ReadingLaws.{minus_answers, plain_answers, plain_most, empty_bad}
+use Rattle.std.proofs.lemmas.Bool.Decides.{Decides-eqb}
+use Rattle.std.proofs.lemmas.Int.{ints}
+use Rattle.std.proofs.lemmas.Result.{err_from_is_err_and}
+use Rattle.std.proofs.lemmas.Slice.Eq.{strip_prefix_is}
+use Rattle.limits.specs.Limits
+use Rattle.off_number.proofs.ReadingLaws.{minus_answers, plain_answers, plain_most}
 use Rattle.off_number.proofs.read.Goals as goal
 
--- a byte and the rest
-whole : (s : List ℕ) → 0 < length s → get_or s 0 0 ≡ 45 → s ≡ 45 ∷ drop 1 s
-whole [] h e = absurd (omega arith)
-whole (b ∷ s) h e = ap (λ (c : ℕ). c ∷ s) e
+turned : (s : ℕ) → s ≤ Limits.shape_reach → to_z w32 (of_z w32 (pos 0 -ℤ to_z w32 s)) ≡ neg_ℤ (pos s)
+turned s h = omega (arith, ints)
 
-other : (s : List ℕ) → (get_or s 0 0 ≡ 45 → ⊥) → (digits : List ℕ) → s ≡ 45 ∷ digits → ⊥
-other s f digits e = f (ap (λ (l : List ℕ). get_or l 0 0) e)
+kept : (s : ℕ) → s ≤ Limits.shape_reach → to_z w32 s ≡ pos s
+kept s h = omega (arith, ints)
 
-pub returns-then-word-eq0 : goal.returns-then-word-eq0
-returns-then-word-eq0 c = let s = c.args.word.now in empty_bad s c.if-word-eq0.true
+pub returns-in_err-plain-in-Some : goal.returns-in_err-plain-in-Some
+returns-in_err-plain-in-Some c =
+    let e = rw c.in-Some.is at (strip_prefix_is Decides-eqb c.args.word.now (45 ∷ []) c.strip_prefix.result c.strip_prefix.ensures.cases) in
+    let p = err_from_is_err_and c.from_residual.result c.from_residual.ensures.1 in
+    rw (p.1, p.2) (minus_answers _ e c.in_err-plain-in-Some.ensures)
 
-pub below_zero-requires : goal.below_zero-requires
-below_zero-requires c = plain_most c.plain.ensures
+pub returns-in_err-plain-in-None : goal.returns-in_err-plain-in-None
+returns-in_err-plain-in-None c =
+    let f = rw c.in-None.is at (strip_prefix_is Decides-eqb c.args.word.now (45 ∷ []) c.strip_prefix.result c.strip_prefix.ensures.cases) in
+    let p = err_from_is_err_and c.from_residual-in_err-plain-in-None.result c.from_residual-in_err-plain-in-None.ensures.1 in
+    rw (p.1, p.2) (plain_answers _ f c.in_err-plain-in-None.ensures)
 
-pub returns-then-word-eq45 : goal.returns-then-word-eq45
-returns-then-word-eq45 c =
-    let s = c.args.word.now in
-    let a : PlainAs (drop 1 s) c.plain.result = subst (λ (l : List ℕ). PlainAs l c.plain.result) (take_all (length s - 1) (drop 1 s) (omega (arith, length-drop 1 s))) c.plain.ensures in
-    subst (NumberReadAs s) (sym c.below_zero.ensures) (minus_answers c.plain.result (whole s (omega (arith, c.if-word-eq0.false)) c.if-word-eq45.true) a)
+pub returns-in_ok-plain-in-Some : goal.returns-in_ok-plain-in-Some
+returns-in_ok-plain-in-Some c =
+    let e = rw c.in-Some.is at (strip_prefix_is Decides-eqb c.args.word.now (45 ∷ []) c.strip_prefix.result c.strip_prefix.ensures.cases) in
+    rw (turned _ (plain_most c.in_ok-plain-in-Some.ensures)) (minus_answers _ e c.in_ok-plain-in-Some.ensures)
 
-pub not_below_zero-requires : goal.not_below_zero-requires
-not_below_zero-requires c = plain_most c.plain-2.ensures
-
-pub returns : goal.returns
-returns c =
-    let s = c.args.word.now in
-    subst (NumberReadAs s) (sym c.not_below_zero.ensures) (plain_answers c.plain-2.result (other s c.if-word-eq45.false) c.plain-2.ensures)
+pub returns-in_ok-plain-in-None : goal.returns-in_ok-plain-in-None
+returns-in_ok-plain-in-None c =
+    let f = rw c.in-None.is at (strip_prefix_is Decides-eqb c.args.word.now (45 ∷ []) c.strip_prefix.result c.strip_prefix.ensures.cases) in
+    rw (kept _ (plain_most c.in_ok-plain-in-None.ensures)) (plain_answers _ f c.in_ok-plain-in-None.ensures)

@@ -1,22 +1,13 @@
 -- `corners` meets its contract: commas first, then the whole text, and what is left is for the room (RoomLaws).
-use native.Mathlib.Omega.{arith}
-use Rattle.off_read.specs.Passes.{LayoutRead}
-use Rattle.off_read.proofs.RoomLaws.{comma_refused_lem, text_refused, text_fills, may_fill}
+use Rattle.std.proofs.lemmas.Result.{err_from_is_err_and}
+use mathlib.Core.Path.{refl}
+use Rattle.off_read.proofs.RoomLaws.{text_refused, may_fill}
 use Rattle.off_read.proofs.corners.Goals as goal
 
-pub returns-then-has_comma : goal.returns-then-has_comma
-returns-then-has_comma c = comma_refused_lem (c.has_comma.ensures.yes c.if-has_comma.true)
+pub returns-in_err-layout : goal.returns-in_err-layout
+returns-in_err-layout c =
+    let p = err_from_is_err_and c.from_residual.result c.from_residual.ensures.1 in
+    rw (p.1, p.2) (text_refused (c.if-has_comma.ensures.no refl) _ c.in_err-layout.ensures)
 
 pub fill-requires : goal.fill-requires
-fill-requires c =
-    let read : LayoutRead c.args.text.now c.first_pass-layout.result = c.first_pass-layout.ensures.good (λ e. omega (arith, e, c.if-number-eq-DONE.true)) in
-    may_fill (read) c.if-number-eq-DONE.true
-
-pub returns-then-number-eq-DONE : goal.returns-then-number-eq-DONE
-returns-then-number-eq-DONE c =
-    let read : LayoutRead c.args.text.now c.first_pass-layout.result = c.first_pass-layout.ensures.good (λ e. omega (arith, e, c.if-number-eq-DONE.true)) in
-    text_fills (c.has_comma.ensures.no c.if-has_comma.false) (read) c.if-number-eq-DONE.true c.fill.ensures
-
-pub returns : goal.returns
-returns c =
-    text_refused (c.has_comma.ensures.no c.if-has_comma.false) c.first_pass-layout.ensures c.if-number-eq-DONE.false
+fill-requires c = may_fill c.in_ok-layout.ensures

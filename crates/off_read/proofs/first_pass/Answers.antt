@@ -1,20 +1,29 @@
 -- `first_pass` meets its contract: the title, the counts and the body are the layout of the text (LayoutLaws).
-use borrow.Author.Tests.{not-true, not-false}
-use Rattle.limits.specs.DecidesLaws.{unless_taken, unless_left}
-use Rattle.off_read.specs.LayoutLaws.{no_title, no_counts, layout_is}
+use mathlib.Core.Path.{◌≡◌, refl}
+use Rattle.std.proofs.Common.{Err}
+use Rattle.std.proofs.lemmas.Result.{err_from_is_err_and}
+use Rattle.limits.specs.declared.Refusal.TheVariants.{BadText}
+use Rattle.off_read.specs.LayoutLaws.{title_taken, no_counts, layout_is}
 use Rattle.off_read.proofs.first_pass.Goals as goal
 
-pub returns-then-not-is_off : goal.returns-then-not-is_off
-returns-then-not-is_off c =
-    record { bad = λ _. no_title _ _ c.next_word-title.ensures (unless_taken c.is_off.ensures c.if-not-is_off.true-raw); good = λ f. absurd (f c.no_layout.ensures) }
+pub returns-in_err-head : goal.returns-in_err-head
+returns-in_err-head c =
+    let title = title_taken c.args.text.now _ c.next_word.result c.next_word.ensures.next c.if-not-is_some_and.ensures in
+    let none = rw c.in_err-head.ensures.ok_part at c.counts.ensures in
+    let p = err_from_is_err_and c.from_residual.result c.from_residual.ensures.1 in
+    let e = rw c.in_err-head.ensures.ok_part at c.in_err-head.ensures.value in
+    let b : p.0 ≡ BadText = cc in
+    rw (p.1, b) (record { bad = λ _. no_counts c.args.text.now title.next none; good = λ f. absurd (f refl); read = tt })
 
-pub returns-then-not-head : goal.returns-then-not-head
-returns-then-not-head c =
-    record { bad = λ _. no_counts _ _ c.next_word-title.ensures (c.counts-head.ensures.bad (not-true _ c.if-not-head.true)); good = λ f. absurd (f c.no_layout-then-not-head.ensures) }
-
-pub body-number-requires : goal.body-number-requires
-body-number-requires c = (c.counts-head.ensures.good (not-false _ c.if-not-head.false)).within
+pub returns-in_err-body : goal.returns-in_err-body
+returns-in_err-body c =
+    let title = title_taken c.args.text.now _ c.next_word.result c.next_word.ensures.next c.if-not-is_some_and.ensures in
+    let head = rw c.in_ok-head.ensures.ok_part at c.counts.ensures in
+    let p = err_from_is_err_and c.from_residual-in_err-body.result c.from_residual-in_err-body.ensures.1 in
+    rw (p.1, p.2) (layout_is c.args.text.now title.next head c.in_err-body.ensures (Err c.in_err-body.field-0.0) refl tt title.is)
 
 pub returns : goal.returns
 returns c =
-    layout_is _ _ c.next_word-title.ensures _ (c.counts-head.ensures.good (not-false _ c.if-not-head.false)) _ c.body-number.ensures (unless_left c.is_off.ensures c.if-not-is_off.false-raw)
+    let title = title_taken c.args.text.now _ c.next_word.result c.next_word.ensures.next c.if-not-is_some_and.ensures in
+    let head = rw c.in_ok-head.ensures.ok_part at c.counts.ensures in
+    layout_is c.args.text.now title.next head c.in_ok-body.ensures _ refl (refl, refl) title.is

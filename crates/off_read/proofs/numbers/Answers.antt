@@ -1,55 +1,55 @@
--- `numbers` meets its contract. The invariant: the first i words are numbers, with their first refusal, and the words from the place on are those after them.
-use Prim.Native.Nat.{ℕ}
-use lib.ListN.{drop}
+-- `numbers` meets its contract: each word is there and a number, or the first that is none ends it (NumberLaws).
+use Prim.Native.Nat.{ℕ, ◌+◌}
+use denote.Enum.Bare.{same_true, same_false}
 use mathlib.Core.Path.{◌≡◌, refl, sym, ap, ◌∙◌, subst}
+use borrow.Author.Rules.{rules}
 use native.Mathlib.Omega.{arith}
-use Rattle.off_number.specs.OffNumber.{IsNumber, NumberReadAs}
-use Rattle.off_text.specs.FaceLaws.{word-is, words_after}
+use Rattle.std.proofs.Common.{Err, Ok}
+use Rattle.std.proofs.lemmas.Result.{err_from_is_err_and}
+use Rattle.limits.specs.Limits
+use Rattle.limits.specs.Refusals.{number_of, answer_number}
+use Rattle.limits.specs.contracts.Refusal.{the_type}
+use Rattle.limits.specs.declared.Refusal.TheVariants.{BadText}
+use Rattle.limits.proofs.RefusalLaws.{number_once}
+use Rattle.off_number.specs.OffNumber.{IsNumber, number_read_of, NumberReadAs}
+use Rattle.off_text.specs.FaceLaws.{word-is, word_none, words_after}
 use Rattle.off_text.specs.Off.{words_in}
-use Rattle.off_read.specs.NumberLaws.{bad_word, judged_none, judged_more, judged_not_bad}
+use Rattle.off_read.specs.NumberLaws.{empty_number, bad_word, lower_done, judged_more}
 use Rattle.off_read.specs.Passes.{NumbersJudged}
 use Rattle.off_read.proofs.numbers.Goals as goal
+use Rattle.off_read.proofs.numbers.Goals.{in-Err+else-eq, in-Ok}
 
-pub loop-i-init : goal.loop-i-init
-loop-i-init c = (c.requires, omega arith, refl, judged_none (words_in (drop c.args.from c.args.text.now)))
+pub returns-in_err-word : goal.returns-in_err-word
+returns-in_err-word c =
+    let words = words_in c.args.words.now.rest.now in
+    let none = rw c.in_err-word.ensures.ok_part at c.next_word.ensures.next in
+    let empty = word_none words c.loop-i.i _ c.loop-i.invariant.0 none in
+    let p = err_from_is_err_and c.from_residual.result c.from_residual.ensures.1 in
+    let e = rw c.in_err-word.ensures.ok_part at c.in_err-word.ensures.value in
+    let b : p.0 ≡ BadText = cc in
+    rw (p.1, b) (record { bad = λ _ h. empty_number (subst IsNumber empty (h c.loop-i.i c.loop-i-test.true)); good = λ f. absurd (f refl) })
 
-pub next_word-word-requires : goal.next_word-word-requires
-next_word-word-requires c = c.loop-i.invariant.0
-
-pub slice_bounds-read-count : goal.slice_bounds-read-count
-slice_bounds-read-count c = c.next_word-word.ensures.onward
-
-pub returns-then-refusal-eq-BAD_TEXT : goal.returns-then-refusal-eq-BAD_TEXT
-returns-then-refusal-eq-BAD_TEXT c =
-    let a = c.args in
-    let words = words_in (drop a.from a.text.now) in
-    let e = word-is words a.text.now c.loop-i.at c.loop-i.i _ c.loop-i.invariant.2 c.next_word-word.ensures in
-    record {
-      within = c.loop-i.invariant.0;
-      bad = λ _ h. bad_word _ c.read-read.ensures.number c.if-refusal-eq-BAD_TEXT.true (subst IsNumber (sym e) (h c.loop-i.i c.loop-i-test.true));
-      good = λ f. absurd (f refl);
-    }
+pub returns-then-eq : goal.returns-then-eq
+returns-then-eq c =
+    let words = words_in c.args.words.now.rest.now in
+    let next = rw c.in_ok-word.ensures.ok_part at c.next_word.ensures.next in
+    let e = word-is words c.loop-i.i _ c.loop-i.invariant.0 next in
+    let same : c.in-Err.refusal ≡ BadText = same_true the_type (search rules) _ _ (sym c.if-eq.ensures) in
+    let bad : number_of c.in-Err.refusal ≡ Limits.bad_text = ap number_of same in
+    record { bad = λ _ h. bad_word _ c.in-Err.ensures.number bad (subst IsNumber (sym e) (h c.loop-i.i c.loop-i-test.true)); good = λ f. absurd (f bad) }
 
 pub loop-i-preserved : goal.loop-i-preserved
 loop-i-preserved c =
-    let a = c.args in
-    let words = words_in (drop a.from a.text.now) in
-    let n = c.next_word-word.ensures in
-    let e = word-is words a.text.now c.loop-i.at c.loop-i.i _ c.loop-i.invariant.2 n in (
-      n.within,
-      omega arith,
-      words_after words a.text.now c.loop-i.at c.loop-i.i _ c.loop-i.invariant.2 n,
-      subst (NumbersJudged _ words) (sym c.lower-number.ensures)
-          (judged_more c.loop-i.i words c.loop-i.invariant.3 (subst (λ t. NumberReadAs t c.read-read.result) e c.read-read.ensures) c.if-refusal-eq-BAD_TEXT.false),
-    )
-
-pub returns : goal.returns
-returns c =
-    let a = c.args in
-    let words = words_in (drop a.from a.text.now) in
-    let e : c.loop-i.i ≡ a.n = omega (arith, c.loop-i.invariant.1, c.loop-i-test.false) in
-    record {
-      within = c.loop-i.invariant.0;
-      bad = λ z. absurd (judged_not_bad c.loop-i.i words c.loop-i.invariant.3.lowest z);
-      good = λ _. (subst (λ (k : ℕ). NumbersJudged k words c.loop-i.number) e c.loop-i.invariant.3, c.loop-i.invariant.2 ∙ ap (λ (k : ℕ). drop k words) e);
-    }
+    let words = words_in c.args.words.now.rest.now in
+    let i = c.loop-i.i in
+    let next = rw c.in_ok-word.ensures.ok_part at c.next_word.ensures.next in
+    let e = word-is words i _ c.loop-i.invariant.0 next in
+    let judged : NumbersJudged (i + 1) words (answer_number c.match-read.found) =
+    elim c.match-read.branch [
+      | in-Err+else-eq w ↦ subst (λ (k : ℕ). NumbersJudged (i + 1) words k) (sym (ap answer_number w.found-is ∙ w.lower.ensures))
+          (judged_more i words c.loop-i.invariant.1 (subst (λ t. NumberReadAs t (number_read_of (Err w.in-Err.refusal))) e w.in-Err.ensures)
+          (λ z. same_false the_type _ _ (sym w.if-eq.ensures) (number_once _ BadText z)))
+      | in-Ok w ↦ subst (λ (k : ℕ). NumbersJudged (i + 1) words k) (lower_done (answer_number c.loop-i.found) ∙ sym (ap answer_number w.found-is))
+          (judged_more i words c.loop-i.invariant.1 (subst (λ t. NumberReadAs t (number_read_of (Ok w.in-Ok.field-0))) e w.in-Ok.ensures) (λ z. omega (arith, z)))
+    ] in
+    (words_after words i _ c.loop-i.invariant.0 next, judged)

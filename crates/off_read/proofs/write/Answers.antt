@@ -1,52 +1,44 @@
--- `write` meets its contract. The invariant: the first i words stand in the room, in steps, and the rest of it is as it was (RoomLaws).
+-- `write` meets its contract: each word is there, and is steps (RoomLaws).
 use Prim.Native.Nat.{ℕ}
-use lib.ListN.{drop, length-set}
+use borrow.Author.Rules.{rules}
 use mathlib.Core.List.{List}
-use mathlib.Core.Path.{◌≡◌, refl, ◌∙◌, subst}
-use native.Mathlib.Omega.{arith}
+use mathlib.Core.Path.{refl, sym, ◌∙◌, subst}
+use mir.Facts.{to_z-of_z}
 use mir.Syntax.{w32}
-use mir.ValLaws.{to_z-of_z}
-use Rattle.limits.proofs.LowestLaws.{lowest_once}
-use Rattle.off_number.specs.OffNumber.{word_refusals, NumberReadAs}
-use Rattle.off_text.specs.FaceLaws.{word-is, words_after}
-use Rattle.off_text.specs.Off.{words_in, word_at}
-use Rattle.off_read.specs.Corners.{WordsWritten}
-use Rattle.off_read.proofs.RoomLaws.{written_none, written_more}
+use mir.Val.{SFits}
+use native.Mathlib.Omega.{arith}
+use lib.ListN.{length-set}
+use Rattle.std.proofs.Common.{Ok}
+use Rattle.off_number.specs.OffNumber.{InSteps, NumberReadAs, number_read_of}
+use Rattle.off_text.specs.FaceLaws.{word-is, word_none, words_after}
+use Rattle.off_text.specs.Off.{words_in}
+use Rattle.off_read.specs.Passes.{Taken}
+use Rattle.off_read.proofs.RoomLaws.{written_more, taken_some, word_there, taken_steps}
 use Rattle.off_read.proofs.write.Goals as goal
 
-pub loop-i-init : goal.loop-i-init
-loop-i-init c = (c.requires.0, omega arith, refl, refl, written_none _ _)
+pub unwrap-requires : goal.unwrap-requires
+unwrap-requires c =
+    let i = c.loop-cell.cell-index in
+    word_there _ _ c.next_word.result c.next_word.ensures.next (λ e. taken_some (subst Taken (word_none (words_in c.args.text.now) i _ c.loop-cell.invariant.0 e) (c.requires i c.loop-cell-test.true)))
 
-pub next_word-word-requires : goal.next_word-word-requires
-next_word-word-requires c = c.loop-i.invariant.0
+pub unwrap-requires-in-loop-cell : goal.unwrap-requires-in-loop-cell
+unwrap-requires-in-loop-cell c =
+    let i = c.loop-cell.cell-index in
+    let next = rw c.unwrap.ensures at c.next_word.ensures.next in
+    let e = word-is (words_in c.args.text.now) i _ c.loop-cell.invariant.0 next in
+    let steps = taken_steps c.read.result c.read.ensures (subst Taken (sym e) (c.requires i c.loop-cell-test.true)) in
+    rw steps.1
 
-pub slice_bounds-read-count : goal.slice_bounds-read-count
-slice_bounds-read-count c = c.next_word-word.ensures.onward
-
-pub loop-i-preserved : goal.loop-i-preserved
-loop-i-preserved c =
-    let a = c.args in
-    let words = words_in (drop a.from a.text.now) in
-    let n = c.next_word-word.ensures in
-    let i = c.loop-i.i in
-    let z = c.read-read.result.steps in
-    let t = c.loop-i-test.true in
-    let e = word-is words a.text.now c.loop-i.at i _ c.loop-i.invariant.2 n in
-    let h : NumberReadAs (word_at words i) c.read-read.result = subst (λ (v : List ℕ). NumberReadAs v c.read-read.result) e c.read-read.ensures in
-    let o = lowest_once (word_refusals (word_at words i)) h.number (c.requires.2 i t) in
-    let v = written_more c.loop-i.invariant.4 z (h.steps o) (omega (arith, c.requires.1)) in (
-      n.within,
-      omega arith,
-      words_after words a.text.now c.loop-i.at i _ c.loop-i.invariant.2 n,
-      length-set c.loop-i.room i _ ∙ c.loop-i.invariant.3,
-      rw (to_z-of_z w32 z (record { sfits = c.struct_told-1.given.1.0.1 })) v,
+pub loop-cell-preserved : goal.loop-cell-preserved
+loop-cell-preserved c =
+    let words = words_in c.args.text.now in
+    let i = c.loop-cell.cell-index in
+    let z = c.unwrap-in-loop-cell.result in
+    let next = rw c.unwrap.ensures at c.next_word.ensures.next in
+    let e = word-is words i _ c.loop-cell.invariant.0 next in
+    let read : NumberReadAs c.unwrap.result.now (number_read_of (Ok z)) = subst (λ q. NumberReadAs c.unwrap.result.now (number_read_of q)) c.unwrap-in-loop-cell.ensures c.read.ensures in
+    let fits : SFits w32 z = search rules in (
+      words_after words i _ c.loop-cell.invariant.0 next,
+      length-set c.loop-cell.room i _ ∙ c.loop-cell.invariant.1,
+      rw (to_z-of_z fits) (written_more c.loop-cell.invariant.2 z (subst (λ (w : List ℕ). InSteps w z) e (read.steps refl)) (omega (arith, c.loop-cell-test.true))),
     )
-
-pub shape_of-room : goal.shape_of-room
-shape_of-room c = c.loop-i.invariant.3
-
-pub returns : goal.returns
-returns c =
-    let a = c.args in
-    let e : c.loop-i.i ≡ a.n = omega (arith, c.loop-i.invariant.1, c.loop-i-test.false) in
-    subst (λ (k : ℕ). WordsWritten (words_in (drop a.from a.text.now)) k a.room.now c.loop-i.room) e c.loop-i.invariant.4

@@ -1,46 +1,36 @@
--- `faces` meets its contract. The invariant: the words are so many faces exactly where what is left of them is the faces that are left.
-use borrow.Author.Tests.{not-true, not-false, eqb-true, eqb-false}
-use Prim.Native.Nat.{ℕ, ◌-◌}
-use lib.ListN.{drop}
+-- `faces` meets its contract: a face and the faces behind it are all of them (FaceLaws).
+use Prim.Native.Nat.{ℕ, ◌+◌, ◌-◌, ◌<◌}
 use mathlib.Core.Path.{◌≡◌, refl, sym, subst}
 use native.Mathlib.Omega.{arith}
 use Rattle.limits.specs.DecidesLaws.{fails}
 use Rattle.off_text.specs.Off.{words_in, Faces}
-use Rattle.off_text.specs.FaceLaws.{faces_face, face_faces, next-none, none_next}
+use Rattle.off_text.specs.FaceLaws.{faces_face, face_faces}
+use Rattle.off_text.proofs.RunLaws.{nothing_left}
 use Rattle.off_text.proofs.faces.Goals as goal
 
-pub loop-left-init : goal.loop-left-init
-loop-left-init c = (c.requires, λ h. h, λ h. h)
+pub returns-then-not-face : goal.returns-then-not-face
+returns-then-not-face c =
+    let some : 0 < c.args.count - c.loop-i.i = omega (arith, c.loop-i-test.true) in
+    fails refl (λ h. c.if-not-face.ensures.bad refl (faces_face _ _ (c.args.count - c.loop-i.i) some (c.loop-i.invariant.0 h)).0)
 
-pub face-passage-requires : goal.face-passage-requires
-face-passage-requires c = c.loop-left.invariant.0
-
-pub returns-then-not-passage : goal.returns-then-not-passage
-returns-then-not-passage c =
-    fails refl (λ h. c.face-passage.ensures.bad (not-true _ c.if-not-passage.true) (faces_face _ _ c.loop-left.left c.loop-left-test.true (c.loop-left.invariant.1 h)).0)
-
-pub loop-left-preserved : goal.loop-left-preserved
-loop-left-preserved c =
-    let a = c.args in
-    let k = c.loop-left.left in
-    let t = c.loop-left-test.true in
-    let words = words_in (drop c.loop-left.at a.text.now) in
-    let g = c.face-passage.ensures.good (not-false _ c.if-not-passage.false) in (
-      c.face-passage.ensures.within,
-      λ h. subst (Faces a.corners (k - 1)) (sym g.1) (faces_face a.corners words k t (c.loop-left.invariant.1 h)).1,
-      λ h. c.loop-left.invariant.2 (face_faces a.corners words k t g.0 (subst (Faces a.corners (k - 1)) g.1 h)),
+pub loop-i-preserved : goal.loop-i-preserved
+loop-i-preserved c =
+    let n = c.args.corners in
+    let left = c.args.count - c.loop-i.i in
+    let some : 0 < left = omega (arith, c.loop-i-test.true) in
+    let e : left - 1 ≡ c.args.count - (c.loop-i.i + 1) = omega arith in
+    let words = words_in c.loop-i.words.rest.now in
+    let g = c.if-not-face.ensures.good refl in (
+      λ h. subst (λ (k : ℕ). Faces n k (words_in c.face.new.words.rest.now)) e (subst (Faces n (left - 1)) (sym g.1) (faces_face n words left some (c.loop-i.invariant.0 h)).1),
+      λ h. c.loop-i.invariant.1 (face_faces n words left some g.0 (subst (Faces n (left - 1)) g.1 (subst (λ (k : ℕ). Faces n k (words_in c.face.new.words.rest.now)) (sym e) h))),
     )
-
-pub next_word-word-requires : goal.next_word-word-requires
-next_word-word-requires c = c.loop-left.invariant.0
 
 pub returns : goal.returns
 returns c =
-    let a = c.args in
-    let z : c.loop-left.left ≡ 0 = omega (arith, c.loop-left-test.false) in
-    let h = c.next_word-word.ensures in
-    let words = words_in (drop c.loop-left.at a.text.now) in
+    let z : c.args.count - c.loop-i.i ≡ 0 = omega (arith, c.loop-i-test.false) in
+    let words = words_in c.loop-i.words.rest.now in
+    let none = nothing_left _ _ c.next_word.result c.is_none.result c.next_word.ensures.next c.is_none.ensures in
     record {
-      yes = λ e. c.loop-left.invariant.2 (subst (λ (k : ℕ). Faces a.corners k words) (sym z) (next-none _ _ _ h (eqb-true _ _ e)));
-      no = λ e f. eqb-false _ _ e (none_next _ _ _ h (subst (λ (k : ℕ). Faces a.corners k words) z (c.loop-left.invariant.1 f)));
+      yes = λ e. c.loop-i.invariant.1 (subst (λ (k : ℕ). Faces c.args.corners k words) (sym z) (none.yes e));
+      no = λ e h. none.no e (subst (λ (k : ℕ). Faces c.args.corners k words) z (c.loop-i.invariant.0 h));
     }

@@ -1,43 +1,21 @@
--- `rows_list::count_contacts` meets its contract. The invariant: what is listed of the first k rows is three bytes for each one counted.
--- The measure is how many rows are left.
-use mathlib.Core.Path.{ap, sym, ◌∙◌}
-use native.Mathlib.Omega.{arith}
-use lib.Seq.{take_all}
-use lib.ListN.{length, get_or, take, length-append}
-use Rattle.rows_list.specs.Listing.{contacts_none, contacts_more, listed_length}
-use Rattle.ints.specs.Counts.{one_if≤}
+-- `rows_list::count_contacts`: a row more is three bytes where it is a contact.
+use Rattle.std.proofs.Common.{◌≡◌, ap, ◌∙◌, get_or, length, take, length-append, arith}
+use Rattle.ints.specs.Counts.{one_if, one_if≤}
+use Rattle.rows.proofs.Bytes.{byte_one}
 use Rattle.rows_list.specs.Contacts.{contact, listed, contacts}
+use Rattle.rows_list.specs.Listing.{contacts_none, contacts_more, listed_length}
 use Rattle.rows_list.proofs.count_contacts.Goals as goal
 
-pub loop-k-init : goal.loop-k-init
-loop-k-init c = (omega arith, omega arith, ap length (contacts_none c.args.rows.now))
+pub loop-v-init : goal.loop-v-init
+loop-v-init c = record { most = omega arith; bytes = ap length (contacts_none c.args.rows.now) }
 
-pub overflow_add-n : goal.overflow_add-n
-overflow_add-n c = let o = one_if≤ (contact (get_or c.args.rows.now c.loop-k.k 0)) in omega (arith, c.one_if_contact-n.ensures)
-
-pub loop-k-preserved : goal.loop-k-preserved
-loop-k-preserved c =
-    let l = c.loop-k in
+pub loop-v-preserved : goal.loop-v-preserved
+loop-v-preserved c =
     let rows = c.args.rows.now in
-    let v = get_or rows l.k 0 in
-    let s = c.sized_rows.ensures.1 in
-    let o = one_if≤ (contact v) in
-    let e = c.one_if_contact-n.ensures in (
-      omega arith,
-      omega arith,
-      omega (arith, ap length (contacts_more rows l.k (omega arith)), length-append (contacts (take l.k rows)) (listed l.k v), listed_length l.k v),
-    )
-
-pub returns-clause-bytes : goal.returns-clause-bytes
-returns-clause-bytes c =
-    let l = c.loop-k in
-    let rows = c.args.rows.now in
-    let s = c.sized_rows.ensures.1 in
-    ap (λ r. length (contacts r)) (sym (take_all l.k rows (omega arith))) ∙ l.invariant.2
-
-pub returns-clause-most : goal.returns-clause-most
-returns-clause-most c =
-    let l = c.loop-k in
-    let rows = c.args.rows.now in
-    let s = c.sized_rows.ensures.1 in
-    omega arith
+    let l = c.loop-v in
+    let v = get_or rows l.v-index 0 in
+    let here : c.from-n.result ≡ one_if (contact v) = c.from-n.ensures ∙ byte_one c.is_contact.result ∙ ap one_if c.is_contact.ensures in
+    record {
+      most = omega (arith, here, one_if≤ (contact v));
+      bytes = omega (arith, here, l.invariant.bytes, ap length (contacts_more rows l.v-index (omega arith)), length-append (contacts (take l.v-index rows)) (listed l.v-index v), listed_length l.v-index v);
+    }

@@ -1,14 +1,10 @@
--- `rows_list::count_contacts` meets its contract. The invariant: what is listed of the first k rows is three bytes for each one counted.
--- The measure is how many rows are left.
-use Prim.Native.Nat.{◌≤◌, ◌-◌, ◌*◌}
-use mathlib.Core.Path.{◌≡◌}
-use lib.ListN.{length, take}
-use Rattle.limits.specs.Limits
+-- `rows_list::count_contacts`: what is listed of the rows so far is three bytes for each one counted.
+use Rattle.std.proofs.Common.{◌≡◌, ◌≤◌, ◌*◌, length, take}
 use Rattle.rows_list.specs.Contacts.{contacts}
 use Rattle.rows_list.proofs.count_contacts.Given as goal
 
-abbrev pub invariant-loop-k : goal.invariant-loop-k
-invariant-loop-k l = (l.k ≤ Limits.rows) × (l.n ≤ l.k) × (length (contacts (take l.k l.rows)) ≡ 3 * l.n)
-
-abbrev pub decreases-loop-k : goal.decreases-loop-k
-decreases-loop-k l = Limits.rows - l.k
+abbrev pub invariant-loop-v : goal.invariant-loop-v
+invariant-loop-v l = record {
+  most : l.n ≤ l.v-index;
+  bytes : length (contacts (take l.v-index l.rows)) ≡ 3 * l.n;
+}

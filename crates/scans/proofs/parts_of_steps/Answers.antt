@@ -29,8 +29,8 @@ returns-then-digits-step-eq0 c =
     let v = in_parts a.minus a.exponent a.fraction q.0 q.1 in
     whole (quotient (powered a.exponent q.0) c.if-digits-step-eq0.true v) c.taken.ensures
 
-pub returns : goal.returns
-returns c =
+pub returns-else-digits-step-eq0 : goal.returns-else-digits-step-eq0
+returns-else-digits-step-eq0 c =
     let a = c.args in
     let q = c.requires in
     not_whole_lem (fraction c.if-digits-step-eq0.false (in_parts a.minus a.exponent a.fraction q.0 q.1))

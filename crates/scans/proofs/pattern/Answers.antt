@@ -1,32 +1,22 @@
--- `pattern` meets its contract. Only what is not a number differs from itself; every other float has a pattern of its own.
-use mathlib.Core.Bool.{Bool, true, false, not}
-use mathlib.Core.Path.{◌≡◌, sym, refl, subst}
-use lib.Ieee.Compare.{differs_from_itself}
-use lib.Ieee.Bits.{of_bits-to_bits}
-use lib.Ieee.{Float, nan, inf, fin, binary32, to_bits, of_bits, ne, is_nan}
-use lib.Dec.{T}
+-- `pattern` meets its contract: what is not a number has one pattern of ours, and every other float has its own.
+use Rattle.std.specs.Prelude.{◌≡◌, refl, true, T, Float}
+use Rattle.std.specs.Float.{nan, inf, fin, binary32}
+use lib.Ieee.{to_bits, of_bits, is_nan}
+use Rattle.std.specs.Float.Ieee.Bits.{of_bits-to_bits}
+use Rattle.std.proofs.Common.{sym, subst}
 use Rattle.scans.specs.Shown.{PatternOf}
 use Rattle.scans.proofs.pattern.Goals as goal
 
-no_nan : (x : Float) → ne x x ≡ false → T (not (is_nan x))
-unfolding ne is_nan
-no_nan nan e = let z : ◌≡◌ {A = Bool} true false = e in subst T z tt
-no_nan (inf s) e = tt
-no_nan (fin s m e) h = tt
+nan_pattern : (x : Float) → true ≡ is_nan x → PatternOf x 2143289344
+unfolding to_bits of_bits is_nan
+nan_pattern nan e = record { written = refl; read = refl }
+nan_pattern (inf s) e = absurd (subst T e tt)
+nan_pattern (fin s m e) h = absurd (subst T h tt)
 
-nan_pattern : PatternOf nan 2143289344
-unfolding to_bits of_bits
-nan_pattern = record { written = refl; read = refl }
+pub returns-then-is_nan : goal.returns-then-is_nan
+returns-then-is_nan c = nan_pattern c.args.x c.if-is_nan.ensures.value
 
-pub returns-then-x : goal.returns-then-x
-returns-then-x c =
-    let x = c.args.x in
-    subst (λ (x : Float). PatternOf x 2143289344) (sym (differs_from_itself x (subst T (sym c.if-x.true) tt))) nan_pattern
-
-pub float_to_bits-result : goal.float_to_bits-result
-float_to_bits-result c = no_nan c.args.x c.if-x.false
-
-pub returns : goal.returns
-returns c =
+pub returns-else-is_nan : goal.returns-else-is_nan
+returns-else-is_nan c =
     let x = c.args.x in
     record { written = refl; read = of_bits-to_bits binary32 x (subst T (sym c.well_formed.0.1) tt) }

@@ -1,57 +1,61 @@
 -- `scan_patterns` meets its contract: the lower of three numbers is the lowest refusal of the three floats together (specs/Lower).
-use Prim.Native.Nat.{ℕ}
-use mathlib.Core.Path.{◌≡◌, ◌∙◌, sym, ap, refl, subst}
-use mathlib.Core.Logic.{◌⊎◌}
-use lib.IntN.{pos}
-use mir.ValLaws.{to_z-of_z}
-use mir.Syntax.{w32}
+use Rattle.std.specs.Prelude.{◌≡◌, ◌⊎◌, refl, ℤ, Result, Ok, Err}
+use Rattle.std.proofs.Common.{ap, subst, arith}
+use Rattle.std.proofs.lemmas.Result.{err_from_is_err_and}
 use Rattle.limits.specs.Lowest.{Lowest}
-use Rattle.scans.specs.declared.Scan.{Scan}
+use Rattle.limits.specs.Refusals.{answer_number}
+use Rattle.limits.specs.declared.Refusal.{Refusal}
+use Rattle.limits.proofs.RefusalLaws.{number_some}
 use Rattle.scans.specs.declared.Point.{Point}
-use Rattle.scans.specs.Lower.{together, lower_none}
-use Rattle.scans.specs.Scanned.{ScannedAs, One, of_patterns, PointAs, lower_of}
+use Rattle.scans.specs.Lower.{together, both_number, both_given}
+use Rattle.scans.specs.Scanned.{scan_of, both_of, scanned_of, ScannedAs, One, of_patterns, PointAs}
 use Rattle.scans.specs.Floats.{refusals}
+use Rattle.scans.proofs.ResultsOnce.{scan_number}
+use Rattle.scans.proofs.Within.{float_as_is}
 use Rattle.scans.proofs.scan_patterns.Goals as goal
 
--- what the floats a, b and c of a point gave, put together
-module _ (p : Point) (a b c : Scan) (ha : ScannedAs p.x a) (hb : ScannedAs p.y b) (hc : ScannedAs p.z c) (n : ℕ) (e : n ≡ lower_of a.number (lower_of b.number c.number)) where
-  lowest : Lowest (refusals (λ C. One C p)) n
+-- what the floats of a point gave, put together
+module _ (p : Point) (a b c : Result ℤ Refusal) (ha : ScannedAs p.x (scan_of a)) (hb : ScannedAs p.y (scan_of b)) (hc : ScannedAs p.z (scan_of c)) where
+  lowest : Lowest (refusals (λ C. One C p)) (answer_number (both_of a (both_of b c)))
   lowest =
-      subst (Lowest (refusals (λ C. One C p))) (sym e)
-      (together (λ C. C p.x) (λ C. C p.y ⊎ C p.z) a.number (lower_of b.number c.number) ha.number
-      (together (λ C. C p.y) (λ C. C p.z) b.number c.number hb.number hc.number))
+      rw (both_number a (both_of b c), both_number b c, ← scan_number a, ← scan_number b, ← scan_number c)
+      (together (λ C. C p.x) (λ C. C p.y ⊎ C p.z) _ _ ha.number (together (λ C. C p.y) (λ C. C p.z) _ _ hb.number hc.number))
 
-  all_taken : n ≡ 0 → PointAs p (record { number = 0; x = a.steps; y = b.steps; z = c.steps })
-  all_taken z =
-      let u = lower_none a.number (lower_of b.number c.number) (sym e ∙ z) in
-      let v = lower_none b.number c.number u.1 in
+  all_taken : (x y z : ℤ) → both_of a (both_of b c) ≡ Ok (x, (y, z)) → PointAs p (record { number = 0; x = x; y = y; z = z })
+  all_taken x y z e =
+      let f = both_given e in
+      let g = both_given f.1 in
       record {
-        number = subst (Lowest (refusals (λ C. One C p))) z lowest;
-        steps = λ _. (ha.steps u.0, hb.steps v.0, hc.steps v.1);
+        number = subst (Lowest (refusals (λ C. One C p))) (ap answer_number e) lowest;
+        steps = λ _. ((rw f.0 at ha).steps refl, (rw g.0 at hb).steps refl, (rw g.1 at hc).steps refl);
         zero = λ f. absurd (f refl);
       }
 
-  one_refused : (n ≡ 0 → ⊥) → PointAs p (record { number = n; x = pos 0; y = pos 0; z = pos 0 })
-  one_refused f = record { number = lowest; steps = λ z. absurd (f z); zero = λ _. (refl, refl, refl) }
+  one_refused : (r : Refusal) → both_of a (both_of b c) ≡ Err r → PointAs p (scanned_of (Err r))
+  one_refused r e = record {
+    number = subst (Lowest (refusals (λ C. One C p))) (ap answer_number e) lowest;
+    steps = λ z. absurd (omega (arith, number_some r));
+    zero = λ _. (refl, refl, refl);
+  }
 
-pub returns-then-number-eq-DONE : goal.returns-then-number-eq-DONE
-returns-then-number-eq-DONE c =
-    let number_of : c.lower-number.result ≡ lower_of c.scan_pattern-a.result.number
-    (lower_of c.scan_pattern-b.result.number c.scan_pattern-c.result.number) = c.lower-number.ensures ∙ ap (lower_of c.scan_pattern-a.result.number) c.lower.ensures in
-    rw (
-      to_z-of_z w32 c.scan_pattern-a.result.steps (record { sfits = c.struct_told-1.given.1.0.1 }),
-      to_z-of_z w32 c.scan_pattern-b.result.steps
-          (record { sfits = c.struct_told-then-number-eq-DONE-1.given.1.0.1 }),
-      to_z-of_z w32 c.scan_pattern-c.result.steps (record { sfits = c.struct_told-then-number-eq-DONE-2-1.given.1.0.1 }),
-    )
-    (all_taken (of_patterns c.args.x c.args.y c.args.z) c.scan_pattern-a.result c.scan_pattern-b.result c.scan_pattern-c.result
-    c.scan_pattern-a.ensures c.scan_pattern-b.ensures c.scan_pattern-c.ensures
-    c.lower-number.result (number_of) c.if-number-eq-DONE.true)
+pub returns-in_err-x : goal.returns-in_err-x
+returns-in_err-x c =
+    let p = err_from_is_err_and c.from_residual.result c.from_residual.ensures.1 in
+    rw (p.1, p.2)
+    (one_refused (of_patterns c.args.x c.args.y c.args.z) c.scan_pattern.result c.scan_pattern-2.result c.scan_pattern-3.result
+    c.scan_pattern.ensures c.scan_pattern-2.ensures c.scan_pattern-3.ensures c.in_err-x.field-0.0
+    (cc (c.in_err-x.ensures, c.both.ensures)))
 
 pub returns : goal.returns
 returns c =
-    let number_of : c.lower-number.result ≡ lower_of c.scan_pattern-a.result.number
-    (lower_of c.scan_pattern-b.result.number c.scan_pattern-c.result.number) = c.lower-number.ensures ∙ ap (lower_of c.scan_pattern-a.result.number) c.lower.ensures in
-    one_refused (of_patterns c.args.x c.args.y c.args.z) c.scan_pattern-a.result c.scan_pattern-b.result c.scan_pattern-c.result
-    c.scan_pattern-a.ensures c.scan_pattern-b.ensures c.scan_pattern-c.ensures
-    c.lower-number.result (number_of) c.if-number-eq-DONE.false
+    let e : both_of c.scan_pattern.result (both_of c.scan_pattern-2.result c.scan_pattern-3.result) ≡ Ok (c.in_ok-x.x, (c.in_ok-x.y, c.in_ok-x.z)) =
+    cc (c.in_ok-x.ensures, c.both.ensures) in
+    let f = both_given e in
+    let g = both_given f.1 in
+    rw (
+      float_as_is c.in_ok-x.x (rw f.0 at c.scan_pattern.ensures),
+      float_as_is c.in_ok-x.y (rw g.0 at c.scan_pattern-2.ensures),
+      float_as_is c.in_ok-x.z (rw g.1 at c.scan_pattern-3.ensures),
+    )
+    (all_taken (of_patterns c.args.x c.args.y c.args.z) c.scan_pattern.result c.scan_pattern-2.result c.scan_pattern-3.result
+    c.scan_pattern.ensures c.scan_pattern-2.ensures c.scan_pattern-3.ensures c.in_ok-x.x c.in_ok-x.y c.in_ok-x.z e)

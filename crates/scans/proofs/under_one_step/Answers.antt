@@ -10,7 +10,7 @@ returns-then-pattern-eq0 c =
     let n = c.args.pattern in
     as_pattern n (no_steps (nothing (minus n) (exponent n) (digits n) (omega (arith, c.if-pattern-eq0.true)) (omega (arith, c.if-pattern-eq0.true))))
 
-pub returns : goal.returns
-returns c =
+pub returns-else-pattern-eq0 : goal.returns-else-pattern-eq0
+returns-else-pattern-eq0 c =
     let n = c.args.pattern in
     as_pattern n (not_whole_lem (small (minus n) (exponent n) (digits n) c.requires (omega arith) (λ e t. c.if-pattern-eq0.false (omega arith))))

@@ -1,21 +1,14 @@
 -- `starts` meets its contract: the triangles before the position are the quotient, and none is left over.
 use borrow.Author.Tests.{eqb-true, eqb-false}
 use Prim.Native.Nat.{◌-◌, ◌*◌, ◌/◌, ◌%◌}
-use mathlib.Core.Path.{◌≡◌, refl, ap, ◌∙◌}
+use mathlib.Core.Path.{◌≡◌, ap, ◌∙◌}
 use native.Mathlib.Nat.{div-add-mod, mul-mod_right}
 use native.Mathlib.Omega.{arith}
-use Rattle.limits.specs.DecidesLaws.{fails}
 use Rattle.scans_stl.specs.Steps.{TriangleStarts}
 use Rattle.scans_stl.proofs.starts.Goals as goal
 
-pub returns-then-at-lt-FIRST : goal.returns-then-at-lt-FIRST
-returns-then-at-lt-FIRST c = fails refl (λ (s : TriangleStarts _ _). omega (arith, s.place))
-
-pub returns-then-file-at : goal.returns-then-file-at
-returns-then-file-at c = fails refl (λ (s : TriangleStarts _ _). omega (arith, s.place, s.below))
-
-pub returns : goal.returns
-returns c =
+pub returns-then-at-file : goal.returns-then-at-file
+returns-then-at-file c =
     let a = c.args.at in
     record {
       yes = λ e.

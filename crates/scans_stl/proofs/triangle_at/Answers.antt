@@ -1,80 +1,78 @@
 -- `triangle_at` meets its contract: the lower of its corners' numbers is the lowest refusal of its nine floats, and none refused means that each is taken.
-use Prim.Native.Nat.{ℕ, ◌+◌, ◌*◌}
-use lib.IntN.{ℤ}
-use mathlib.Core.Bool.{true}
-use mathlib.Core.List.{List, [], ◌∷◌}
-use mathlib.Core.Path.{◌≡◌, refl, sym, ap, ◌∙◌, subst}
-use mir.Syntax.{w32}
-use mir.ValLaws.{to_z-of_z}
-use Rattle.scans.specs.Lower.{lower_none}
-use Rattle.scans.specs.Scanned.{PointAs, lower_of}
-use Rattle.scans.specs.declared.Scanned.{Scanned}
+use Rattle.std.specs.Prelude.{ℕ, ◌+◌, ◌*◌, ◌≡◌, refl, true, List, [], ◌∷◌, ℤ, Result, Ok, Err}
+use Rattle.std.proofs.Common.{sym, ap, subst, arith}
+use Rattle.std.proofs.lemmas.Result.{err_from_is_err_and}
+use Rattle.limits.specs.Refusals.{answer_number}
+use Rattle.limits.specs.declared.Refusal.{Refusal}
+use Rattle.limits.proofs.RefusalLaws.{number_some}
+use Rattle.scans.specs.declared.Steps.{Steps}
+use Rattle.scans.specs.Lower.{both_number, both_given}
+use Rattle.scans.specs.Scanned.{both_of, scanned_of, PointAs}
+use Rattle.scans.proofs.ResultsOnce.{scanned_number}
+use Rattle.scans.proofs.Within.{point_as_is}
 use Rattle.scans_stl.specs.Stl.{normal_bytes, corner_bytes, triangle_bytes, point_at, triangle_at, Corner, in_steps, numbers_of}
 use Rattle.scans_stl.specs.StlLaws.{LowestOf, one_of, first_of, corner_taken}
-use Rattle.scans_stl.specs.Steps.{no_triangle, TriangleAs}
+use Rattle.scans_stl.specs.Steps.{taken_of, TriangleAs}
 use Rattle.scans_stl.proofs.triangle_at.Goals as goal
 
 -- the numbers of three corners as they were scanned
-abbrev nine : Scanned → Scanned → Scanned → List ℤ
+abbrev nine : Steps → Steps → Steps → List ℤ
 nine a b c = a.x ∷ a.y ∷ a.z ∷ b.x ∷ b.y ∷ b.z ∷ c.x ∷ c.y ∷ c.z ∷ []
 
-abbrev corner_of : Scanned → Corner
+abbrev corner_of : Steps → Corner
 corner_of a = record { x = a.x; y = a.y; z = a.z }
 
 -- what the three corners of a triangle gave, put together
-module _ (file : List ℕ) (at : ℕ) (a b c : Scanned) (ha : PointAs (point_at file (at + normal_bytes)) a)
-    (hb : PointAs (point_at file (at + normal_bytes + corner_bytes)) b) (hc : PointAs (point_at file (at + normal_bytes + 2 * corner_bytes)) c)
-    (n : ℕ) (e : n ≡ lower_of a.number (lower_of b.number c.number)) where
-  lowest : LowestOf (triangle_at file at) n
+module _ (file : List ℕ) (at : ℕ) (a b c : Result Steps Refusal) (ha : PointAs (point_at file (at + normal_bytes)) (scanned_of a))
+    (hb : PointAs (point_at file (at + normal_bytes + corner_bytes)) (scanned_of b))
+    (hc : PointAs (point_at file (at + normal_bytes + 2 * corner_bytes)) (scanned_of c)) where
+  lowest : LowestOf (triangle_at file at) (answer_number (both_of a (both_of b c)))
   lowest =
       let p = point_at file (at + normal_bytes) in
       let q = point_at file (at + normal_bytes + corner_bytes) in
       let s = point_at file (at + normal_bytes + 2 * corner_bytes) in
-      subst (LowestOf (triangle_at file at)) (sym e) (first_of p (q ∷ s ∷ []) ha.number (first_of q (s ∷ []) hb.number (one_of s hc.number)))
+      rw (both_number a (both_of b c), both_number b c, ← scanned_number a, ← scanned_number b, ← scanned_number c)
+      (first_of p (q ∷ s ∷ []) ha.number (first_of q (s ∷ []) hb.number (one_of s hc.number)))
 
-  all_taken : n ≡ 0 → TriangleAs file at (record { number = 0; found = true; corners = nine a b c; next = at + triangle_bytes })
-  all_taken z =
-      let u = lower_none a.number (lower_of b.number c.number) (sym e ∙ z) in
-      let v = lower_none b.number c.number u.1 in
-      let x : in_steps (point_at file (at + normal_bytes)) ≡ corner_of a = corner_taken ha u.0 in
-      let y : in_steps (point_at file (at + normal_bytes + corner_bytes)) ≡ corner_of b = corner_taken hb v.0 in
-      let w : in_steps (point_at file (at + normal_bytes + 2 * corner_bytes)) ≡ corner_of c = corner_taken hc v.1 in
+  all_taken : (x y z : Steps) → both_of a (both_of b c) ≡ Ok (x, (y, z))
+      → TriangleAs file at (record { number = 0; found = true; corners = nine x y z; next = at + triangle_bytes })
+  all_taken x y z e =
+      let f = both_given e in
+      let g = both_given f.1 in
+      let u : in_steps (point_at file (at + normal_bytes)) ≡ corner_of x = corner_taken (rw f.0 at ha) refl in
+      let v : in_steps (point_at file (at + normal_bytes + corner_bytes)) ≡ corner_of y = corner_taken (rw g.0 at hb) refl in
+      let w : in_steps (point_at file (at + normal_bytes + 2 * corner_bytes)) ≡ corner_of z = corner_taken (rw g.1 at hc) refl in
       record {
-        number = subst (LowestOf (triangle_at file at)) z lowest;
-        handed = λ _. sym (λ i. record { number = 0; found = true; corners = numbers_of (x i ∷ y i ∷ w i ∷ []); next = at + triangle_bytes });
+        number = subst (LowestOf (triangle_at file at)) (ap answer_number e) lowest;
+        handed = λ _. sym (λ i. record { number = 0; found = true; corners = numbers_of (u i ∷ v i ∷ w i ∷ []); next = at + triangle_bytes });
         nothing = λ f. absurd (f refl);
       }
 
-  one_refused : (n ≡ 0 → ⊥) → TriangleAs file at (no_triangle n)
-  one_refused f = record { number = lowest; handed = λ z. absurd (f z); nothing = λ _. refl }
+  one_refused : (r : Refusal) → both_of a (both_of b c) ≡ Err r → TriangleAs file at (taken_of (Err r))
+  one_refused r e = record {
+    number = subst (LowestOf (triangle_at file at)) (ap answer_number e) lowest;
+    handed = λ z. absurd (omega (arith, number_some r));
+    nothing = λ _. refl;
+  }
 
-pub returns-then-number-eq-DONE : goal.returns-then-number-eq-DONE
-returns-then-number-eq-DONE c =
-    let number_of : c.lower-number.result ≡ lower_of c.corner-a.result.number
-    (lower_of c.corner-b.result.number c.corner-c.result.number) = c.lower-number.ensures ∙ ap (lower_of c.corner-a.result.number) c.lower.ensures in
-    let a = c.args in
-    let u = c.struct_told-1.given in
-    let v = c.struct_told-then-number-eq-DONE-1.given in
-    let w = c.struct_told-then-number-eq-DONE-2-1.given in
-    rw (
-      to_z-of_z w32 c.corner-a.result.x (record { sfits = u.1.0.1 }),
-      to_z-of_z w32 c.corner-a.result.y (record { sfits = u.1.1.0.1 }),
-      to_z-of_z w32 c.corner-a.result.z (record { sfits = u.1.1.1.0.1 }),
-      to_z-of_z w32 c.corner-b.result.x (record { sfits = v.1.0.1 }),
-      to_z-of_z w32 c.corner-b.result.y (record { sfits = v.1.1.0.1 }),
-      to_z-of_z w32 c.corner-b.result.z (record { sfits = v.1.1.1.0.1 }),
-      to_z-of_z w32 c.corner-c.result.x (record { sfits = w.1.0.1 }),
-      to_z-of_z w32 c.corner-c.result.y (record { sfits = w.1.1.0.1 }),
-      to_z-of_z w32 c.corner-c.result.z (record { sfits = w.1.1.1.0.1 }),
-    )
-    (all_taken a.file.now a.at c.corner-a.result c.corner-b.result c.corner-c.result c.corner-a.ensures c.corner-b.ensures c.corner-c.ensures
-    c.lower-number.result (number_of) c.if-number-eq-DONE.true)
+pub returns-in_err-a : goal.returns-in_err-a
+returns-in_err-a c =
+    let p = err_from_is_err_and c.from_residual.result c.from_residual.ensures.1 in
+    rw (p.1, p.2)
+    (one_refused c.args.file.now c.args.at c.corner-a.result c.corner-b.result c.corner-c.result
+    c.corner-a.ensures c.corner-b.ensures c.corner-c.ensures c.in_err-a.field-0.0
+    (cc (c.in_err-a.ensures, c.both.ensures)))
 
 pub returns : goal.returns
 returns c =
-    let number_of : c.lower-number.result ≡ lower_of c.corner-a.result.number
-    (lower_of c.corner-b.result.number c.corner-c.result.number) = c.lower-number.ensures ∙ ap (lower_of c.corner-a.result.number) c.lower.ensures in
-    let a = c.args in
-    rw c.no_triangle.ensures
-    (one_refused a.file.now a.at c.corner-a.result c.corner-b.result c.corner-c.result c.corner-a.ensures c.corner-b.ensures c.corner-c.ensures
-    c.lower-number.result (number_of) c.if-number-eq-DONE.false)
+    let a = c.in_ok-a.a in
+    let b = c.in_ok-a.b in
+    let d = c.in_ok-a.c in
+    let e : both_of c.corner-a.result (both_of c.corner-b.result c.corner-c.result) ≡ Ok (a, (b, d)) = cc (c.in_ok-a.ensures, c.both.ensures) in
+    let f = both_given e in
+    let g = both_given f.1 in
+    let u = point_as_is a (rw f.0 at c.corner-a.ensures) in
+    let v = point_as_is b (rw g.0 at c.corner-b.ensures) in
+    let w = point_as_is d (rw g.1 at c.corner-c.ensures) in
+    rw (u.0, u.1, u.2, v.0, v.1, v.2, w.0, w.1, w.2)
+    (all_taken c.args.file.now c.args.at c.corner-a.result c.corner-b.result c.corner-c.result c.corner-a.ensures c.corner-b.ensures c.corner-c.ensures a b d e)

@@ -12,5 +12,5 @@ use Rattle.space.proofs.first_of.Goals as goal
 pub returns-then-u-eq0 : goal.returns-then-u-eq0
 returns-then-u-eq0 c = worth (search known depth 9) tt ∙ sym (lex_zero _ (same_bits {w = w64} c.ranges.u (sfits_lit tt) c.if-u-eq0.true))
 
-pub returns : goal.returns
-returns c = worth (search known depth 9) tt ∙ sym (lex_other _ (other_bits w64 _ (pos 0) c.if-u-eq0.false))
+pub returns-else-u-eq0 : goal.returns-else-u-eq0
+returns-else-u-eq0 c = worth (search known depth 9) tt ∙ sym (lex_other _ (other_bits w64 _ (pos 0) c.if-u-eq0.false))

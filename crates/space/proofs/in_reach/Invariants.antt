@@ -1,12 +1,9 @@
--- `space::in_reach`: every number before `i` is near; the loop ends at the first that is not.
+-- `space::in_reach`: every number before the index is near; the loop ends at the first that is not.
 use Rattle.space.specs.Lists.{IsNear}
-use Prim.Native.Nat.{ℕ, ◌≤◌, ◌<◌, ◌-◌}
-use lib.ListN.{length, get_or}
+use Prim.Native.Nat.{ℕ, ◌<◌}
+use lib.ListN.{get_or}
 use lib.IntN.{pos}
 use Rattle.space.proofs.in_reach.Given as goal
 
-abbrev pub invariant-loop-i : goal.invariant-loop-i
-invariant-loop-i l = (l.i ≤ length l.s) × ((k : ℕ) → k < l.i → IsNear (l.reach) (get_or l.s k (pos 0)))
-
-abbrev pub decreases-loop-i : goal.decreases-loop-i
-decreases-loop-i l = length l.s - l.i
+abbrev pub invariant-loop-x : goal.invariant-loop-x
+invariant-loop-x l = (k : ℕ) → k < l.x-index → IsNear l.reach (get_or l.s k (pos 0))

@@ -1,60 +1,23 @@
--- `text_cut::part_end` meets its contract. The invariant: the part that starts at the place ends where the first part of what is left from
--- i on ends. The measure is what is left of the text.
-use Prim.Native.Nat.{ℕ, suc, ◌≤◌, ◌<◌, ◌+◌}
-use mathlib.Core.List.{List, [], ◌∷◌}
-use mathlib.Core.Path.{◌≡◌, refl, ap}
-use native.Mathlib.Numerals.{add-one}
-use native.Mathlib.Omega.{arith}
-use lib.ListN.{length, get_or, drop, drop_of_length-le}
-use lib.Seq.{drop-cons}
+-- `text_cut::part_end` meets its contract: the first part of what is left ends at the place of the first byte at which it is cut.
+use Rattle.std.specs.Prelude.{◌≡◌, ◌-◌, drop, length}
+use Rattle.std.proofs.Math.Seq.{take_all}
+use Rattle.std.specs.Option.{unwrap_or}
+use Rattle.std.proofs.Common.{ap, ◌∙◌, arith, length-drop}
 use Rattle.text_cut.specs.Cuts.{first_part}
-use Rattle.text_cut.proofs.CutLaws.{first-none, first_cut, first_more}
+use Rattle.text_cut.proofs.CutLaws.{first_found, first_le}
 use Rattle.text_cut.proofs.part_end.Goals as goal
 
-module _ (c : ℕ) (s : List ℕ) (i : ℕ) where
-  more : i < length s → (get_or s i 0 ≡ c → ⊥) → first_part c (drop i s) ≡ get_or s i 0 ∷ first_part c (drop (i + 1) s)
-  more h n = rw (drop-cons s i 0 h, add-one) (first_more c (get_or s i 0) (drop (suc i) s) n)
-
-  stop : i < length s → get_or s i 0 ≡ c → first_part c (drop i s) ≡ []
-  stop h e = rw (drop-cons s i 0 h, e) (first_cut c (drop (suc i) s))
-
-  none : length s ≤ i → first_part c (drop i s) ≡ []
-  none h = rw (drop_of_length-le s h) (first-none c)
-
-pub returns-then-text-start-clause-place : goal.returns-then-text-start-clause-place
-returns-then-text-start-clause-place c =
+pub returns-in_default-clause-place : goal.returns-in_default-clause-place
+returns-in_default-clause-place c =
     let a = c.args in
-    omega (arith, c.if-text-start.true, ap length (none a.cut a.text.now a.start (omega arith)))
+    omega (arith, c.in_default.ensures.lookup.0, first_le a.cut (drop a.start a.text.now), length-drop a.start a.text.now)
 
-pub returns-then-text-start-clause-within : goal.returns-then-text-start-clause-within
-returns-then-text-start-clause-within c =
+pub returns : goal.returns
+returns c =
     let a = c.args in
-    omega (arith, c.if-text-start.true, ap length (none a.cut a.text.now a.start (omega arith)))
-
-pub loop-i-init : goal.loop-i-init
-loop-i-init c = (omega arith, refl)
-
-pub returns-then-text-i-clause-place : goal.returns-then-text-i-clause-place
-returns-then-text-i-clause-place c =
-    let a = c.args in
-    omega (arith, c.loop-i.invariant.1, c.if-text-start.false, ap length (stop a.cut a.text.now c.loop-i.i (omega arith) c.if-text-i.true))
-
-pub returns-then-text-i-clause-within : goal.returns-then-text-i-clause-within
-returns-then-text-i-clause-within c =
-    let a = c.args in
-    omega (arith, c.loop-i.invariant.1, c.if-text-start.false, ap length (stop a.cut a.text.now c.loop-i.i (omega arith) c.if-text-i.true))
-
-pub loop-i-preserved : goal.loop-i-preserved
-loop-i-preserved c =
-    let a = c.args in
-    (omega arith, omega (arith, c.loop-i.invariant.1, ap length (more a.cut a.text.now c.loop-i.i (omega arith) c.if-text-i.false)))
-
-pub returns-clause-place : goal.returns-clause-place
-returns-clause-place c =
-    let a = c.args in
-    omega (arith, c.loop-i.invariant.1, c.if-text-start.false, ap length (none a.cut a.text.now c.loop-i.i c.loop-i-test.false))
-
-pub returns-clause-within : goal.returns-clause-within
-returns-clause-within c =
-    let a = c.args in
-    omega (arith, c.loop-i.invariant.1, c.if-text-start.false, ap length (none a.cut a.text.now c.loop-i.i c.loop-i-test.false))
+    let left = c.in-Some.left.now in
+    let h = c.in-Some.ensures.lookup.0 in
+    let k : c.unwrap_or.result ≡ length (first_part a.cut left) =
+    c.unwrap_or.ensures ∙ ap (λ o. unwrap_or o (length left)) c.first_place.ensures ∙ first_found a.cut left in
+    let e : left ≡ drop a.start a.text.now = h.2 ∙ take_all (length a.text.now - a.start) (drop a.start a.text.now) (omega (arith, length-drop a.start a.text.now)) in
+    record { place = omega (arith, h, k, ap (λ s. length (first_part a.cut s)) e); within = omega (arith, h, k, first_le a.cut left) }

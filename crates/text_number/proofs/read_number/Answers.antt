@@ -1,34 +1,30 @@
 -- `text_number::read_number` meets its contract: the digits after the minus, or all of them, and then the sign.
-use Prim.Native.Nat.{ℕ, ◌-◌, ◌<◌}
-use mathlib.Core.Path.{◌≡◌, sym, ap, ◌∙◌, subst}
-use mathlib.Core.List.{List, ◌∷◌}
-use native.Mathlib.Omega.{arith}
-use lib.ListN.{length, get_or, drop, length-drop}
-use lib.Seq.{drop-cons, take_all}
-use Rattle.text_number.specs.Numbers.{Reads}
+use Rattle.std.proofs.Common.{◌∷◌, [], Some, None, neg_ℤ, arith, ap}
+use Rattle.std.proofs.lemmas.Bool.Decides.{Decides-eqb}
+use Rattle.std.proofs.lemmas.Int.{ints}
+use Rattle.std.proofs.lemmas.Slice.Eq.{strip_prefix_is}
+use Rattle.text_number.specs.Numbers.{plain, minus}
 use Rattle.text_number.specs.Magnitude.{Magnitude}
-use Rattle.text_number.specs.NumberLaws.{empty_bad, plain_reads, minus_reads}
-use Rattle.text_number.specs.declared.Number.{Number}
+use Rattle.text_number.specs.NumberLaws.{figures_below, converted, no_minus, no_plain}
 use Rattle.text_number.proofs.read_number.Goals as goal
 
--- a word is its first byte and what follows
-first-is : (s : List ℕ) → 0 < length s → s ≡ get_or s 0 0 ∷ drop 1 s
-first-is s h = drop-cons s 0 0 h
+pub returns-in_ok-magnitude-in-Some : goal.returns-in_ok-magnitude-in-Some
+returns-in_ok-magnitude-in-Some c =
+    let p = strip_prefix_is Decides-eqb c.args.word.now (45 ∷ []) (Some c.in-Some.digits) c.in-Some.ensures.cases in
+    let m : Magnitude c.in-Some.digits.now (Some c.in_ok-magnitude-in-Some.field-0) = c.in_ok-magnitude-in-Some.ensures in
+    converted c.try_from.result (minus c.in-Some.digits.now p m.0 (ap neg_ℤ m.1)) (omega (arith, ints, m.1, figures_below m.0)) c.try_from.ensures c.ok.ensures.value
 
-answered : (s : List ℕ) {q r : Number} → q ≡ r → Reads s r → Reads s q
-answered s e h = subst (Reads s) (sym e) h
+pub returns-in_err-magnitude-in-Some : goal.returns-in_err-magnitude-in-Some
+returns-in_err-magnitude-in-Some c =
+    let p = strip_prefix_is Decides-eqb c.args.word.now (45 ∷ []) (Some c.in-Some.digits) c.in-Some.ensures.cases in
+    rw c.from_residual.ensures (no_minus p c.in_err-magnitude-in-Some.ensures)
 
-pub returns-then-word-eq0 : goal.returns-then-word-eq0
-returns-then-word-eq0 c = empty_bad c.if-word-eq0.true
+pub returns-in_ok-magnitude-in-None : goal.returns-in_ok-magnitude-in-None
+returns-in_ok-magnitude-in-None c =
+    let m : Magnitude c.args.word.now (Some c.in_ok-magnitude-in-None.field-0) = c.in_ok-magnitude-in-None.ensures in
+    converted c.try_from-in-None.result (plain m.0 m.1) (omega (arith, ints, m.1, figures_below m.0)) c.try_from-in-None.ensures c.ok-in-None.ensures.value
 
-pub returns-then-word-eq45 : goal.returns-then-word-eq45
-returns-then-word-eq45 c =
-    let s = c.args.word.now in
-    let a : Magnitude (drop 1 s) c.magnitude.result = subst (λ (l : List ℕ). Magnitude l c.magnitude.result) (take_all (length s - 1) (drop 1 s) (omega (arith, length-drop 1 s)))
-    c.magnitude.ensures in
-    answered s c.below_zero.ensures (minus_reads a (first-is s (omega arith) ∙ ap (λ (b : ℕ). b ∷ drop 1 s) c.if-word-eq45.true))
-
-pub returns : goal.returns
-returns c =
-    let s = c.args.word.now in
-    answered s c.not_below_zero.ensures (plain_reads c.magnitude-2.ensures λ ds e. c.if-word-eq45.false (ap (λ (l : List ℕ). get_or l 0 0) e))
+pub returns-in_err-magnitude-in-None : goal.returns-in_err-magnitude-in-None
+returns-in_err-magnitude-in-None c =
+    let p = strip_prefix_is Decides-eqb c.args.word.now (45 ∷ []) None c.in-None.ensures.cases in
+    rw c.from_residual-in_err-magnitude-in-None.ensures (no_plain p c.in_err-magnitude-in-None.ensures)

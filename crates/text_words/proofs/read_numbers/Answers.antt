@@ -17,8 +17,7 @@ use Rattle.text_number.specs.NumberLaws.{empty_bad}
 use Rattle.text_words.specs.Words.{space_byte, first_word, words_of}
 use Rattle.text_cut.proofs.CutLaws.{first_le, first_take, parts_none, parts_last, parts_next}
 use Rattle.text_words.specs.ReadLaws.{done_none, done_length, done_bad, done_full, done_more, done_last}
-use Rattle.text_number.specs.declared.Number.{Number}
-use Rattle.text_number.specs.declared.Number.TheVariants.{Value}
+use Rattle.std.specs.Prelude.{Option, Some}
 use Rattle.text_words.proofs.read_numbers.Goals as goal
 
 -- the word at a place, and where it ends
@@ -56,18 +55,20 @@ pub word_end-end-requires : goal.word_end-end-requires
 word_end-end-requires c = tt
 
 -- the word that was read, the number that it is, and that its cell keeps it
-stored : (w : List ℕ) (r : Number) (v : ℤ) → r ≡ Value v → Reads w r → Reads w (Value (to_z w32 (of_z w32 v)))
+stored : (w : List ℕ) (r : Option ℤ) (v : ℤ) → r ≡ Some v → Reads w r → Reads w (Some (to_z w32 (of_z w32 v)))
 stored w r v e h =
-    let k : Reads w (Value v) = subst (Reads w) e h in
-    subst (λ (z : ℤ). Reads w (Value z)) (sym (to_z-of_z (fits_in w32 v 2147483648 2147483647 k.1 (omega arith) (omega arith)))) k
+    let k : Reads w (Some v) = subst (Reads w) e h in
+    subst (λ (z : ℤ). Reads w (Some z)) (sym (to_z-of_z (fits_in w32 v 2147483648 2147483647 k.1 (omega arith) (omega arith)))) k
 
-pub shape_of-room-in_default : goal.shape_of-room-in_default
-shape_of-room-in_default c = done_length c.loop-at.invariant
+pub shape_of-room-in_err-v : goal.shape_of-room-in_err-v
+shape_of-room-in_err-v c = done_length c.loop-at.invariant
 
-pub returns-in_default : goal.returns-in_default
-returns-in_default c =
-    let some_at : (rest : List (List ℕ)) × (words_of (drop c.loop-at.at c.args.line.now) ≡ word c.args.line.now c.loop-at.at c.word_end-end.result c.loop-at-test.true c.word_end-end.ensures.place ∷ rest) = some c.args.line.now c.loop-at.at c.word_end-end.result c.loop-at-test.true c.word_end-end.ensures.place in
-    done_bad c.loop-at.invariant (word c.args.line.now c.loop-at.at c.word_end-end.result c.loop-at-test.true c.word_end-end.ensures.place) (some_at).0 (some_at).1 (subst (Reads (word c.args.line.now c.loop-at.at c.word_end-end.result c.loop-at-test.true c.word_end-end.ensures.place)) c.in_default.is c.read_number.ensures)
+pub returns-in_err-v : goal.returns-in_err-v
+returns-in_err-v c =
+    let s = c.args.line.now in
+    let w = word s c.loop-at.at c.word_end-end.result c.loop-at-test.true c.word_end-end.ensures.place in
+    let k = some s c.loop-at.at c.word_end-end.result c.loop-at-test.true c.word_end-end.ensures.place in
+    rw c.from_residual.ensures (done_bad c.loop-at.invariant w k.0 k.1 c.in_err-v.ensures)
 
 pub shape_of-room-then-room-n : goal.shape_of-room-then-room-n
 shape_of-room-then-room-n c = done_length c.loop-at.invariant
@@ -93,8 +94,8 @@ shape_of-room-then-end-line c = length-set c.loop-at.room c.loop-at.n _ ∙ done
 
 pub returns-then-end-line : goal.returns-then-end-line
 returns-then-end-line c =
-    let value_of : Reads (word c.args.line.now c.loop-at.at c.word_end-end.result c.loop-at-test.true c.word_end-end.ensures.place) (Value (to_z w32 (of_z w32 c.in-Value.v))) =
-    stored (word c.args.line.now c.loop-at.at c.word_end-end.result c.loop-at-test.true c.word_end-end.ensures.place) c.read_number.result c.in-Value.v c.in-Value.is
+    let value_of : Reads (word c.args.line.now c.loop-at.at c.word_end-end.result c.loop-at-test.true c.word_end-end.ensures.place) (Some (to_z w32 (of_z w32 c.in_ok-v.v))) =
+    stored (word c.args.line.now c.loop-at.at c.word_end-end.result c.loop-at-test.true c.word_end-end.ensures.place) c.read_number.result c.in_ok-v.v c.in_ok-v.was
     c.read_number.ensures in
     let d = c.loop-at.invariant in
     let e = last c.args.line.now c.loop-at.at c.word_end-end.result c.loop-at-test.true c.word_end-end.ensures.place c.if-end-line.true in
@@ -112,8 +113,8 @@ loop-at-smaller c =
 
 pub loop-at-preserved : goal.loop-at-preserved
 loop-at-preserved c =
-    let value_of : Reads (word c.args.line.now c.loop-at.at c.word_end-end.result c.loop-at-test.true c.word_end-end.ensures.place) (Value (to_z w32 (of_z w32 c.in-Value.v))) =
-    stored (word c.args.line.now c.loop-at.at c.word_end-end.result c.loop-at-test.true c.word_end-end.ensures.place) c.read_number.result c.in-Value.v c.in-Value.is
+    let value_of : Reads (word c.args.line.now c.loop-at.at c.word_end-end.result c.loop-at-test.true c.word_end-end.ensures.place) (Some (to_z w32 (of_z w32 c.in_ok-v.v))) =
+    stored (word c.args.line.now c.loop-at.at c.word_end-end.result c.loop-at-test.true c.word_end-end.ensures.place) c.read_number.result c.in_ok-v.v c.in_ok-v.was
     c.read_number.ensures in
     let d = c.loop-at.invariant in
     let e = next c.args.line.now c.loop-at.at c.word_end-end.result c.loop-at-test.true c.word_end-end.ensures.place c.if-end-line.false in

@@ -4,6 +4,7 @@ use Prim.Native.Nat.{ℕ, ◌≤◌, ◌+◌, ◌-◌, ◌*◌, ◌^◌}
 use mathlib.Core.Path.{◌≡◌, ap, ap₂, ◌∙◌, subst}
 use native.Mathlib.Nat.{mul-le-mul}
 use native.Mathlib.Omega.{arith}
+use mathlib.Core.List.{List}
 use lib.ListN.{length, drop, length-drop}
 use Rattle.limits.specs.Limits
 use Rattle.text_digits.specs.Decimal.{Digits, number, cut}
@@ -11,22 +12,22 @@ use Rattle.text_digits.specs.DecimalLaws.{leading, leading_digits, leading_all, 
 use Rattle.typed.specs.Reading.{Few, judged}
 use Rattle.typed.specs.ReadingLaws.{part_refused, part_taken}
 use Rattle.typed.proofs.after_separator.Goals as goal
+use Rattle.typed.proofs.after_separator.Goals.{then-k-text-via-then-k-text, then-k-text-via-else-k-text+then-k-eq0, then-k-text-via-else-k-text+else-k-eq0+then-k-gt-PART_DIGITS}
+
+-- where the digits are all of what is left, they were counted
+counted : (t : List ℕ) (k : ℕ) → k ≡ length (leading t) → Digits t → k ≡ length t
+counted t k e ds = e ∙ ap length (digits_leading t ds)
 
 pub returns-then-k-text : goal.returns-then-k-text
 returns-then-k-text c =
-    let left : length (drop c.args.at c.args.text.now) ≡ length c.args.text.now - c.args.at = length-drop c.args.at c.args.text.now in
-    let counted : Digits (drop c.args.at c.args.text.now) → c.digits-part.result.count ≡ length (drop c.args.at c.args.text.now) = λ ds. c.digits-part.ensures.count ∙ ap length (digits_leading (drop c.args.at c.args.text.now) ds) in
-    part_refused _ (drop c.args.at c.args.text.now) (λ ds few. omega (arith, c.if-k-text.true, counted ds, left))
-
-pub returns-then-k-eq0 : goal.returns-then-k-eq0
-returns-then-k-eq0 c =
-    let counted : Digits (drop c.args.at c.args.text.now) → c.digits-part.result.count ≡ length (drop c.args.at c.args.text.now) = λ ds. c.digits-part.ensures.count ∙ ap length (digits_leading (drop c.args.at c.args.text.now) ds) in
-    part_refused _ (drop c.args.at c.args.text.now) (λ ds few. omega (arith, c.if-k-eq0.true, counted ds, few.0))
-
-pub returns-then-k-gt-PART_DIGITS : goal.returns-then-k-gt-PART_DIGITS
-returns-then-k-gt-PART_DIGITS c =
-    let counted : Digits (drop c.args.at c.args.text.now) → c.digits-part.result.count ≡ length (drop c.args.at c.args.text.now) = λ ds. c.digits-part.ensures.count ∙ ap length (digits_leading (drop c.args.at c.args.text.now) ds) in
-    part_refused _ (drop c.args.at c.args.text.now) (λ ds few. omega (arith, c.if-k-gt-PART_DIGITS.true, counted ds, few.1))
+    let t = drop c.args.at c.args.text.now in
+    let left = length-drop c.args.at c.args.text.now in
+    let n = counted t c.digits-part.result.count c.digits-part.ensures.count in
+    part_refused _ t (λ ds few. elim c.then-k-text.branch [
+      | then-k-text-via-then-k-text w ↦ omega (arith, w.if-k-text.true, n ds, left)
+      | then-k-text-via-else-k-text+then-k-eq0 w ↦ omega (arith, w.if-k-eq0.true, n ds, few.0)
+      | then-k-text-via-else-k-text+else-k-eq0+then-k-gt-PART_DIGITS w ↦ omega (arith, w.if-k-gt-PART_DIGITS.true, n ds, few.1)
+    ])
 
 pub overflow_mul-part : goal.overflow_mul-part
 overflow_mul-part c =
@@ -40,15 +41,12 @@ overflow_add-whole c =
 
 pub returns : goal.returns
 returns c =
-    let counted : Digits (drop c.args.at c.args.text.now) → c.digits-part.result.count ≡ length (drop c.args.at c.args.text.now) = λ ds. c.digits-part.ensures.count ∙ ap length (digits_leading (drop c.args.at c.args.text.now) ds) in
-    let all : leading (drop c.args.at c.args.text.now) ≡ (drop c.args.at c.args.text.now) =
-    let left : length (drop c.args.at c.args.text.now) ≡ length c.args.text.now - c.args.at = length-drop c.args.at c.args.text.now in
-    leading_all (drop c.args.at c.args.text.now) (omega (arith, c.if-k-text.false, left, c.digits-part.ensures.count)) in
-    let t = (drop c.args.at c.args.text.now) in
+    let t = drop c.args.at c.args.text.now in
     let w = c.args.whole in
-    let a = all in
+    let left = length-drop c.args.at c.args.text.now in
+    let a : leading t ≡ t = leading_all t (omega (arith, c.if-k-text.false, left, c.digits-part.ensures.count)) in
     let ds = subst Digits a (leading_digits t) in
-    let n = counted ds in
+    let n = counted t c.digits-part.result.count c.digits-part.ensures.count ds in
     let few : Few Limits.part_digits t = (omega (arith, n, c.if-k-eq0.false), omega (arith, n, c.if-k-gt-PART_DIGITS.false)) in
     let v : c.digits-part.result.value ≡ number t = omega (arith, c.digits-part.ensures.value, ap number a, number_few Limits.part_digits t ds few.1) in
     let k : c.worth.result ≡ 10 ^ (2 - length t) = c.worth.ensures.value ∙ ap (λ (m : ℕ). 10 ^ (2 - m)) n in

@@ -9,28 +9,14 @@ use lib.ListN.{length, get_or, drop}
 use Rattle.limits.specs.Limits
 use Rattle.text_digits.specs.Decimal.{number}
 use Rattle.text_digits.specs.DecimalLaws.{leading, leading_le, leading_split, leading_digits, number_few}
-use Rattle.typed.specs.TypedLength.{NeedlessZero, LengthAnswers}
+use Rattle.typed.specs.TypedLength.{NeedlessZero, Typed, LengthAnswers}
 use Rattle.typed.specs.Reading.{Few, after_whole, reading}
 use Rattle.typed.specs.ReadingLaws.{reading_answers, form_refused, form_taken}
-use Rattle.typed.specs.declared.Typed.{Typed}
 use Rattle.typed.proofs.typed_length.Goals as goal
+use Rattle.typed.proofs.typed_length.Goals.{then-n-eq0-via-then-n-eq0, then-n-eq0-via-else-n-eq0+then-n-gt-WHOLE_DIGITS, then-n-eq0-via-else-n-eq0+else-n-gt-WHOLE_DIGITS+then-needless_zero}
 
 answered : (text : List ℕ) {r : Typed} → r ≡ reading text → LengthAnswers text r
 answered text e = subst (LengthAnswers text) (sym e) (reading_answers text)
-
-pub returns-then-n-eq0 : goal.returns-then-n-eq0
-returns-then-n-eq0 c =
-    let text = c.args.text.now in
-    answered text (form_refused text (λ few. omega (arith, c.digits-whole.ensures.count, c.if-n-eq0.true, few.0.0)))
-
-pub returns-then-n-gt-WHOLE_DIGITS : goal.returns-then-n-gt-WHOLE_DIGITS
-returns-then-n-gt-WHOLE_DIGITS c =
-    let text = c.args.text.now in
-    answered text (form_refused text (λ few. omega (arith, c.digits-whole.ensures.count, c.if-n-gt-WHOLE_DIGITS.true, few.0.1)))
-
-pub needless_zero-requires : goal.needless_zero-requires
-needless_zero-requires c =
-    omega (arith, c.digits-whole.ensures.count, leading_le c.args.text.now)
 
 -- the first of some digits is the first byte of the text
 first_byte : (l r : List ℕ) → 1 ≤ length l → get_or (l ++ r) 0 0 ≡ get_or l 0 0
@@ -40,13 +26,21 @@ first_byte (b ∷ l) r h = refl
 first-is : (text : List ℕ) → 1 ≤ length (leading text) → get_or text 0 0 ≡ get_or (leading text) 0 0
 first-is text h = ap (λ (l : List ℕ). get_or l 0 0) (leading_split text) ∙ first_byte (leading text) _ h
 
-pub returns-then-needless_zero : goal.returns-then-needless_zero
-returns-then-needless_zero c =
+pub returns-then-n-eq0 : goal.returns-then-n-eq0
+returns-then-n-eq0 c =
     let text = c.args.text.now in
-    let z = c.needless_zero.ensures.0 c.if-needless_zero.true in
     let n : c.digits-whole.result.count ≡ length (leading text) = c.digits-whole.ensures.count in
-    let f = first-is text (omega (arith, n, z.0)) in
-    answered text (form_refused text (λ w. w.1 (record { several = omega (arith, n, z.0); zero = sym f ∙ z.1 })))
+    answered text (form_refused text (λ few. elim c.then-n-eq0.branch [
+      | then-n-eq0-via-then-n-eq0 w ↦ omega (arith, n, w.if-n-eq0.true, few.0.0)
+      | then-n-eq0-via-else-n-eq0+then-n-gt-WHOLE_DIGITS w ↦ omega (arith, n, w.if-n-gt-WHOLE_DIGITS.true, few.0.1)
+      | then-n-eq0-via-else-n-eq0+else-n-gt-WHOLE_DIGITS+then-needless_zero w ↦
+          let z = w.needless_zero.ensures.0 w.if-needless_zero.true in
+          few.1 (record { several = omega (arith, n, z.0); zero = sym (first-is text few.0.0) ∙ z.1 })
+    ]))
+
+pub needless_zero-requires : goal.needless_zero-requires
+needless_zero-requires c =
+    omega (arith, c.digits-whole.ensures.count, leading_le c.args.text.now)
 
 pub after_whole-requires : goal.after_whole-requires
 after_whole-requires c =

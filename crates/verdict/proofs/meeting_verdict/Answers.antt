@@ -1,23 +1,20 @@
 -- `verdict::meeting_verdict`: four weights are penetrating at once; else the weak walk decides.
-use mathlib.Core.Path.{refl, ap, ◌∙◌}
+use mathlib.Core.Path.{ap, ◌∙◌}
 use Rattle.space.specs.Ranges.{upto_le}
 use Rattle.verdict_portal.specs.Exits.{sum3}
 use Rattle.verdict.specs.Judged.{grounded, frame_corners, begun_weak, near_at, weights, penetrating_at_once, touching_by, penetrating_by}
-use Rattle.verdict.specs.Judged.{carries_touching, carries_penetrating, carries_is, answer_eq}
+use Rattle.verdict.specs.Judged.{carries_touching, carries_penetrating}
 use Rattle.verdict.proofs.meeting_verdict.Goals as goal
 
-pub gathered_of-k-requires : goal.gathered_of-k-requires
-gathered_of-k-requires c = near_at c.requires.placed.0 c.requires.placed.1 c.requires.meeting_at
+pub gathered_of-pairs-requires : goal.gathered_of-pairs-requires
+gathered_of-pairs-requires c = near_at c.requires.placed.0 c.requires.placed.1 c.requires.meeting_at
 
-pub returns-then-count-eq4 : goal.returns-then-count-eq4
-returns-then-count-eq4 c =
+pub returns-then-pairs-eq4 : goal.returns-then-pairs-eq4
+returns-then-pairs-eq4 c =
     let p = c.requires in
-    let h = c.gathered_of-k.ensures in
-    carries_is (c.meeting_with.ensures ∙ answer_eq c.no_direction.ensures refl) (
-      refl,
-      carries_penetrating (penetrating_at_once p.meeting_at.framed p.meeting_at.walked p.meeting_at.met h c.if-count-eq4.true)
-          (weights p.placed.0 p.placed.1 p.meeting_at.framed p.meeting_at.walked p.meeting_at.met h),
-    )
+    let h = c.gathered_of-pairs.ensures in
+    carries_penetrating (penetrating_at_once p.meeting_at.framed p.meeting_at.walked p.meeting_at.met h c.if-pairs-eq4.true)
+    (weights p.placed.0 p.placed.1 p.meeting_at.framed p.meeting_at.walked p.meeting_at.met h)
 
 pub shift_of-requires : goal.shift_of-requires
 shift_of-requires c = let p = c.requires in frame_corners p.placed.0 p.placed.1 p.meeting_at.framed c.frame_places-v.ensures
@@ -32,26 +29,16 @@ walk-w-requires-clause-begun c =
     let p = c.requires in
     let v = c.frame_places-v.ensures in begun_weak p.placed.0 p.placed.1 p.meeting_at.framed (c.shift_of.ensures ∙ ap (λ w. sum3 w.a w.b w.c) v) v p.meeting_at.walked
 
-pub returns-then-inside : goal.returns-then-inside
-returns-then-inside c =
+pub returns-then-w : goal.returns-then-w
+returns-then-w c =
     let p = c.requires in
     let v = c.frame_places-v.ensures in
-    let k = weights p.placed.0 p.placed.1 p.meeting_at.framed p.meeting_at.walked p.meeting_at.met c.gathered_of-k.ensures in
-    carries_is (c.meeting_with-then-inside.ensures ∙ answer_eq c.no_direction-then-inside.ensures refl) (
-      refl,
-      carries_penetrating
-          (penetrating_by p.meeting_at.framed (c.shift_of.ensures ∙ ap (λ w. sum3 w.a w.b w.c) v) v c.walk-w.ensures
-          c.if-inside.true) k,
-    )
+    carries_penetrating (penetrating_by p.meeting_at.framed (c.shift_of.ensures ∙ ap (λ w. sum3 w.a w.b w.c) v) v c.walk-w.ensures c.if-w.true)
+    (weights p.placed.0 p.placed.1 p.meeting_at.framed p.meeting_at.walked p.meeting_at.met c.gathered_of-pairs.ensures)
 
 pub returns : goal.returns
 returns c =
     let p = c.requires in
     let v = c.frame_places-v.ensures in
-    let k = weights p.placed.0 p.placed.1 p.meeting_at.framed p.meeting_at.walked p.meeting_at.met c.gathered_of-k.ensures in
-    carries_is c.meeting_with-2.ensures (
-      refl,
-      carries_touching (touching_by p.meeting_at.framed (c.shift_of.ensures ∙ ap (λ w. sum3 w.a w.b w.c) v) v c.walk-w.ensures
-          c.if-inside.false)
-          (upto_le tt c.walk-w.ensures.reach) k,
-    )
+    carries_touching (touching_by p.meeting_at.framed (c.shift_of.ensures ∙ ap (λ w. sum3 w.a w.b w.c) v) v c.walk-w.ensures c.if-w.false)
+    (upto_le tt c.walk-w.ensures.reach) (weights p.placed.0 p.placed.1 p.meeting_at.framed p.meeting_at.walked p.meeting_at.met c.gathered_of-pairs.ensures)

@@ -1,7 +1,7 @@
 -- `verdict::verdict`: the strict walk from the frame's portal; where it meets, what follows decides.
 use mathlib.Core.Path.{refl}
 use Rattle.space.specs.Ranges.{upto_le}
-use Rattle.verdict.specs.Judged.{grounded, frame_corners, begun_strict, strict, separate_by, carries_separate, carries_is, answer_eq}
+use Rattle.verdict.specs.Judged.{grounded, frame_corners, begun_strict, strict, separate_by, carries_separate}
 use Rattle.verdict.proofs.verdict.Goals as goal
 
 pub start_of-requires : goal.start_of-requires
@@ -17,7 +17,7 @@ pub walk-e-requires-clause-begun : goal.walk-e-requires-clause-begun
 walk-e-requires-clause-begun c =
     let p = c.requires.placed in
     let f = c.frame_of-f.ensures in
-    begun_strict p.0 p.1 f c.no_direction.ensures c.frame_places-v.ensures c.start_of.ensures
+    begun_strict p.0 p.1 f refl c.frame_places-v.ensures c.start_of.ensures
 
 pub meeting_verdict-requires-clause-placed : goal.meeting_verdict-requires-clause-placed
 meeting_verdict-requires-clause-placed c =
@@ -29,15 +29,15 @@ meeting_verdict-requires-clause-meeting_at c =
     let p = c.requires.placed in
     let f = c.frame_of-f.ensures in record {
       framed = f;
-      walked = strict p.0 p.1 f c.no_direction.ensures c.frame_places-v.ensures
+      walked = strict p.0 p.1 f refl c.frame_places-v.ensures
           c.walk-e.ensures;
-      met = c.if-met.true;
+      met = c.if-e.true;
     }
 
 pub returns : goal.returns
 returns c =
     let p = c.requires.placed in
     let f = c.frame_of-f.ensures in
-    let w = strict p.0 p.1 f c.no_direction.ensures c.frame_places-v.ensures
+    let w = strict p.0 p.1 f refl c.frame_places-v.ensures
     c.walk-e.ensures in
-    carries_is (answer_eq refl c.no_pairs.ensures) (refl, carries_separate (separate_by p.0 p.1 f w c.if-met.false) (upto_le tt w.reach))
+    carries_separate (separate_by p.0 p.1 f w c.if-e.false) (upto_le tt w.reach)

@@ -15,7 +15,7 @@ returns-then-u-eq0 c =
     let p = c.requires in
     ap (λ z. lt_z z (pos 0))
     (worth (k_back w64 c.dot.result (k-is c.dot.ensures (search known depth 25))) tt
-    ∙ side_level s.q s.p s.b s.c p.x_value.0 c.minus.ensures.0 c.cross-e.ensures.0 c.plus.ensures.0
+    ∙ side_level s.q s.p s.b s.c p.x_value.0 c.sub.ensures.0 c.cross-e.ensures.0 c.add.ensures.0
     (zero_made c.dot-u.ensures (dot_within (upto_le tt p.x_value.1) p.upto.1) c.if-u-eq0.true))
 
 pub returns : goal.returns

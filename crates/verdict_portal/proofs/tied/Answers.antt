@@ -11,7 +11,7 @@ returns-then-u-eq0 c =
     let p = c.requires in
     ap (λ z. lt_z z (pos 0))
     (sign_made c.leading.ensures (leading_within c.cross-n.ensures.1 p.3 p.4 p.5)
-    ∙ tied_level s.q s.p s.r s.f c.cross.ensures.0 c.minus.ensures.0 c.cross-n.ensures.0
+    ∙ tied_level s.q s.p s.r s.f c.cross.ensures.0 c.sub.ensures.0 c.cross-n.ensures.0
     (zero_made c.leading-u.ensures (leading_within c.cross.ensures.1 p.3 p.4 p.5)
     c.if-u-eq0.true))
 

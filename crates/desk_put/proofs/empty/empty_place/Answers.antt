@@ -7,11 +7,7 @@ pub renew_marks-requires : goal.renew_marks-requires
 renew_marks-requires c =
     (left_asked c.sized_store.ensures c.requires.in_order.1 c.requires.in_order.0 c.requires.worked, c.requires.in_order.0.marks.long, c.requires.in_order.1)
 
-pub clear_place-requires : goal.clear_place-requires
-clear_place-requires c =
-    (c.requires.in_order.1, c.requires.in_order.0.book)
-
-pub returns : goal.returns
-returns c =
+pub returns-clause-emptied : goal.returns-clause-emptied
+returns-clause-emptied c =
     let w = c.clear_place.ensures in
     emptied c.sized_store.ensures c.requires.in_order.1 c.requires.in_order.0 c.requires.worked c.renew_marks.ensures w.rows w.book

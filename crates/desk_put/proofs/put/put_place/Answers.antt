@@ -20,9 +20,9 @@ put_rows-requires-clause-keyed_marks c =
 pub returns-clause-put : goal.returns-clause-put
 returns-clause-put c =
     let e = c.put_placement.ensures in
-    let w = c.put_rows.ensures in put_down c.sized_store.ensures c.requires.may_put e (put_marks c.sized_store.ensures c.requires.may_put e c.requires.worked c.renew_marks.ensures) w.rows w.book
+    let w = c.put_rows.ensures in
+    put_down c.sized_store.ensures c.requires.may_put e (put_marks c.sized_store.ensures c.requires.may_put e c.requires.worked c.renew_marks.ensures) w.rows w.book
 
 pub returns-clause-keyed : goal.returns-clause-keyed
 returns-clause-keyed c =
-    let e = c.put_placement.ensures in
-    let w = c.put_rows.ensures in put_keys_lem c.sized_store.ensures c.requires.may_put e c.requires.worked c.renew_marks.ensures
+    put_keys_lem c.sized_store.ensures c.requires.may_put c.put_placement.ensures c.requires.worked c.renew_marks.ensures

@@ -5,8 +5,11 @@ use Rattle.desk_put.proofs.renew.renew_marks.Goals as goal
 
 pub returns : goal.returns
 returns c =
-    let a = c.args in
-    let b = a.boxes.now in
-    let q = a.places.now in
-    renewed_in b q a.place (keys_are b q a.place 0 (c.keys_at-new_x.ensures.low, c.keys_at-new_x.ensures.high)) (keys_are b q a.place 1 (c.keys_at-new_y.ensures.low, c.keys_at-new_y.ensures.high)) (keys_are b q a.place 2 (c.keys_at-new_z.ensures.low, c.keys_at-new_z.ensures.high))
+    let b = c.args.worked.now.boxes in
+    let q = c.args.places.now in
+    let p = c.args.place in
+    renewed_in b q p
+    (keys_are b q p 0 (c.keys_at-x.ensures.low, c.keys_at-x.ensures.high))
+    (keys_are b q p 1 (c.keys_at-y.ensures.low, c.keys_at-y.ensures.high))
+    (keys_are b q p 2 (c.keys_at-z.ensures.low, c.keys_at-z.ensures.high))
     c.reorder_marks.ensures

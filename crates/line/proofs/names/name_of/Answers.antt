@@ -6,6 +6,8 @@ use mathlib.Core.Bool.{false≢true}
 use mathlib.Core.List.{◌∷◌}
 use native.Mathlib.Omega.{arith}
 use lib.ListN.{length, take, drop}
+use Rattle.std.proofs.lemmas.Bool.Decides.{Decides-eqb}
+use Rattle.std.proofs.lemmas.Slice.Eq.{slice_eq-Decides}
 use Rattle.text_words.specs.Words.{space_byte, first_word}
 use Rattle.text_cut.proofs.CutLaws.{first_take}
 use Rattle.line.specs.Behind.{behind}
@@ -16,8 +18,8 @@ use Rattle.line.proofs.names.name_of.Goals as goal
 pub loop-end-init : goal.loop-end-init
 loop-end-init c = (omega arith, omega arith, let a = c.args in name_first a.word.now (behind a.names.now 0))
 
-pub returns-then-same : goal.returns-then-same
-returns-then-same c =
+pub returns-then-eq : goal.returns-then-eq
+returns-then-eq c =
     let name_is : let names = c.args.names.now in
     behind names c.loop-end.end ≡ first_word (drop (c.loop-end.end + 1) names) ∷ behind names c.word_end-next.result = next-is c.args.names.now c.loop-end.end c.word_end-next.result c.loop-end-test.true c.word_end-next.ensures.place in
     let part_is_lem : let rest = drop (c.loop-end.end + 1) c.args.names.now in
@@ -26,7 +28,7 @@ returns-then-same c =
     let long : c.word_end-next.result - (c.loop-end.end + 1) ≡ length (first_word rest) = omega (arith, c.word_end-next.ensures.place, c.loop-end-test.true) in
     ap (λ (k : ℕ). take k rest) long ∙ first_take space_byte rest in
     let a = c.args in
-    name_here a.word.now (behind a.names.now 0) c.loop-end.number c.loop-end.invariant.2 (name_is) (c.same.ensures.0 c.if-same.true ∙ part_is_lem)
+    name_here a.word.now (behind a.names.now 0) c.loop-end.number c.loop-end.invariant.2 (name_is) ((slice_eq-Decides Decides-eqb _ _ c.eq.result c.eq.ensures).0 c.if-eq.true ∙ part_is_lem)
 
 pub loop-end-preserved : goal.loop-end-preserved
 loop-end-preserved c =
@@ -40,7 +42,7 @@ loop-end-preserved c =
     let a = c.args in (
       omega (arith, c.word_end-next.ensures.place),
       c.word_end-next.ensures.within,
-      name_next a.word.now (behind a.names.now 0) c.loop-end.number c.loop-end.invariant.2 (name_is) (λ e. false≢true (sym c.if-same.false ∙ c.same.ensures.1 (e ∙ sym (part_is_lem)))),
+      name_next a.word.now (behind a.names.now 0) c.loop-end.number c.loop-end.invariant.2 (name_is) (λ e. false≢true (sym c.if-eq.false ∙ (slice_eq-Decides Decides-eqb _ _ c.eq.result c.eq.ensures).1 (e ∙ sym (part_is_lem)))),
     )
 
 pub returns : goal.returns

@@ -1,11 +1,6 @@
--- `line_ask::report::decimals` stays in range and ends. The measure is what is left of the digits; what is left of a millimetre is less than one.
-use Prim.Native.Nat.{◌≤◌, ◌<◌, ◌-◌}
-use mathlib.Core.Path.{◌≡◌}
-use lib.ListN.{length}
+-- `line_ask::report::decimals` stays in range: what is left is less than a millimetre.
+use Rattle.std.proofs.Common.{◌<◌}
 use Rattle.line_ask.proofs.report.decimals.Given as goal
 
-abbrev pub invariant-loop-i : goal.invariant-loop-i
-invariant-loop-i l = (l.i ≤ 6) × (l.left < 64) × (length l.out ≡ length l.initial.out)
-
-abbrev pub decreases-loop-i : goal.decreases-loop-i
-decreases-loop-i l = 6 - l.i
+abbrev pub invariant-loop : goal.invariant-loop
+invariant-loop l = l.left < 64

@@ -1,7 +1,4 @@
 -- `rows_right::row::put_rows`: the rows with every place before `other` are right by the book's gap, and the book has followed them.
--- The measure is how many places are left.
-use Prim.Native.Nat.{◌≤◌, ◌-◌}
-use Rattle.limits.specs.Limits
 use Rattle.rows.specs.Rows.{Handled}
 use Rattle.rows_tally.specs.Tallies.{BookFollows}
 use Rattle.pieces.specs.Pieces.{store_of}
@@ -9,8 +6,7 @@ use Rattle.rows_right.specs.Right.{RowRight}
 use Rattle.rows_right.proofs.row.put_rows.Given as goal
 
 abbrev pub invariant-loop-other : goal.invariant-loop-other
-invariant-loop-other l =
-    (l.other ≤ Limits.places) × Handled (RowRight l.gap (store_of l.shapes l.places)) l.places l.place l.other l.initial.rows l.rows × BookFollows l.rows l.initial.book l.book
-
-abbrev pub decreases-loop-other : goal.decreases-loop-other
-decreases-loop-other l = Limits.places - l.other
+invariant-loop-other l = record {
+  rows : Handled (RowRight l.gap (store_of l.shapes l.places)) l.places l.place l.other l.initial.rows l.rows;
+  book : BookFollows l.rows l.initial.book l.book;
+}

@@ -13,10 +13,10 @@ cross-n-requires c = (
 pub plane_rows-requires : goal.plane_rows-requires
 plane_rows-requires c = upto_le tt (cross_near c.requires.placed.0 c.requires.placed.1 c.requires.wide c.cross-n.ensures.0)
 
-pub returns-then-found : goal.returns-then-found
-returns-then-found c =
+pub returns-in-Some : goal.returns-in-Some
+returns-in-Some c =
     framed_solid_of c.requires.wide c.cross-n.ensures.0 c.plane_rows.ensures.0
-    c.seek-s.ensures c.if-found.true
+    c.in-Some.ensures
 
 pub in_a_plane-requires : goal.in_a_plane-requires
 in_a_plane-requires c =
@@ -26,8 +26,8 @@ in_a_plane-requires c =
       upto_le tt (cross_near p.placed.0 p.placed.1 p.wide c.cross-n.ensures.0),
     )
 
-pub returns : goal.returns
-returns c =
+pub returns-in-None : goal.returns-in-None
+returns-in-None c =
     framed_in_a_plane c.requires.placed.0 c.requires.placed.1
     c.requires.wide c.cross-n.ensures.0 c.plane_rows.ensures.0
-    c.seek-s.ensures c.if-found.false c.in_a_plane.ensures
+    c.in-None.ensures c.in_a_plane.ensures

@@ -21,38 +21,38 @@ up {gap} e h = k_back w64 _ (k-is e (k_abs (pos gap) gap_most h))
 abbrev away : {n g r : ℤ} → Signed n g r → Known (to_z w64 (of_z w64 r))
 away s = k_back w64 _ (k_within s.most)
 
-pub signed-away-requires : goal.signed-away-requires
-signed-away-requires c = within (up c.steps-g.ensures c.requires.gap_le_gap_most) tt
+pub signed-z-requires : goal.signed-z-requires
+signed-z-requires c = within (up c.from-g.ensures c.requires.gap_le_gap_most) tt
 
 pub thick-requires : goal.thick-requires
-thick-requires c = (upto_le tt c.requires.upto, (made _ (up c.steps-g.ensures c.requires.gap_le_gap_most) (up c.steps-g.ensures c.requires.gap_le_gap_most) (away c.signed-away.ensures) tt).1)
+thick-requires c = (upto_le tt c.requires.upto, (made _ (up c.from-g.ensures c.requires.gap_le_gap_most) (up c.from-g.ensures c.requires.gap_le_gap_most) (away c.signed-z.ensures) tt).1)
 
 pub overflow_sub-g : goal.overflow_sub-g
-overflow_sub-g c = fits (k_sub (pos 0) _ k_lit_pos (up c.steps-g.ensures c.requires.gap_le_gap_most)) tt
+overflow_sub-g c = fits (k_sub (pos 0) _ k_lit_pos (up c.from-g.ensures c.requires.gap_le_gap_most)) tt
 
 pub thick-requires-2 : goal.thick-requires-2
 thick-requires-2 c = (
   upto_le tt c.requires.upto,
-  (made _ (k_back w64 _ (k_sub (pos 0) _ k_lit_pos (up c.steps-g.ensures c.requires.gap_le_gap_most))) (up c.steps-g.ensures c.requires.gap_le_gap_most) (away c.signed-away.ensures) tt).1,
+  (made _ (k_back w64 _ (k_sub (pos 0) _ k_lit_pos (up c.from-g.ensures c.requires.gap_le_gap_most))) (up c.from-g.ensures c.requires.gap_le_gap_most) (away c.signed-z.ensures) tt).1,
 )
 
 pub overflow_sub-g-2 : goal.overflow_sub-g-2
-overflow_sub-g-2 c = fits (k_sub (pos 0) _ k_lit_pos (up c.steps-g.ensures c.requires.gap_le_gap_most)) tt
+overflow_sub-g-2 c = fits (k_sub (pos 0) _ k_lit_pos (up c.from-g.ensures c.requires.gap_le_gap_most)) tt
 
 pub thick-requires-3 : goal.thick-requires-3
 thick-requires-3 c = (
   upto_le tt c.requires.upto,
-  (made _ (up c.steps-g.ensures c.requires.gap_le_gap_most) (k_back w64 _ (k_sub (pos 0) _ k_lit_pos (up c.steps-g.ensures c.requires.gap_le_gap_most))) (away c.signed-away.ensures) tt).1,
+  (made _ (up c.from-g.ensures c.requires.gap_le_gap_most) (k_back w64 _ (k_sub (pos 0) _ k_lit_pos (up c.from-g.ensures c.requires.gap_le_gap_most))) (away c.signed-z.ensures) tt).1,
 )
 
 pub returns : goal.returns
 returns c =
-    let g = up c.steps-g.ensures c.requires.gap_le_gap_most in
+    let g = up c.from-g.ensures c.requires.gap_le_gap_most in
     let d = k_back w64 _ (k_sub (pos 0) _ k_lit_pos g) in
-    let z = away c.signed-away.ensures in
+    let z = away c.signed-z.ensures in
     record {
-      away = c.signed-away.result;
-      of = signed_is (worth (k_back w64 _ (k_within c.requires.upto.uz)) tt) (worth g tt) refl c.signed-away.ensures;
+      away = c.signed-z.result;
+      of = signed_is (worth (k_back w64 _ (k_within c.requires.upto.uz)) tt) (worth g tt) refl c.signed-z.ensures;
       is = frame_eq (made gap_most g g g tt).0 (c.thick.ensures ∙ ap (thick_of c.args.p) (made gap_most g g z tt).0)
           (c.thick-2.ensures ∙ ap (thick_of c.args.p) (made gap_most d g z tt).0) (c.thick-3.ensures ∙ ap (thick_of c.args.p) (made gap_most g d z tt).0);
     }

@@ -12,4 +12,4 @@ returns-then-w-eq0 c = push_none (zero_bits (within_le tt c.requires.within) c.i
 
 pub returns : goal.returns
 returns c =
-    push_some (λ e. c.if-w-eq0.false (ap (of_z w64) e)) c.named-cube.ensures (worth (k_back w64 _ (k_within c.requires.within)) tt)
+    push_some (λ e. c.if-w-eq0.false (ap (of_z w64) e)) c.named.ensures (worth (k_back w64 _ (k_within c.requires.within)) tt)

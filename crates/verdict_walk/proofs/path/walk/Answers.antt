@@ -9,51 +9,49 @@ loop-q-init c = c.requires.begun
 pub edges_of-x-requires : goal.edges_of-x-requires
 edges_of-x-requires c = corners c.places_of-v.ensures c.loop-q.invariant
 
-pub normal_of-n-requires : goal.normal_of-n-requires
-normal_of-n-requires c = let x = c.edges_of-x.ensures in (x.one.1, x.two.1, x.last.1)
+pub normal_of-normal-requires : goal.normal_of-normal-requires
+normal_of-normal-requires c = let x = c.edges_of-x.ensures in (x.one.1, x.two.1, x.last.1)
 
-pub support-p-requires-clause-upto : goal.support-p-requires-clause-upto
-support-p-requires-clause-upto c = let k = c.requires.placed in (c.normal_of-n.ensures.1, k.box)
+pub support-last-requires-clause-upto : goal.support-last-requires-clause-upto
+support-last-requires-clause-upto c = let k = c.requires.placed in (c.normal_of-normal.ensures.1, k.box)
 
-pub support-p-requires-clause-placed : goal.support-p-requires-clause-placed
-support-p-requires-clause-placed c = let k = c.requires.placed in (k.first, k.second)
+pub support-last-requires-clause-placed : goal.support-last-requires-clause-placed
+support-last-requires-clause-placed c = let k = c.requires.placed in (k.first, k.second)
 
 pub behind-requires : goal.behind-requires
 behind-requires c = (
   c.loop-q.invariant.setting.inq,
-  c.normal_of-n.ensures.1,
+  c.normal_of-normal.ensures.1,
   point_upto
-      c.requires.placed c.support-p.ensures.tagged,
+      c.requires.placed c.support-last.ensures.tagged,
 )
 
 pub returns-then-behind : goal.returns-then-behind
 returns-then-behind c =
     walked_apart c.loop-q.invariant c.places_of-v.ensures
-    c.edges_of-x.ensures c.normal_of-n.ensures c.support-p.ensures (said
+    c.edges_of-x.ensures c.normal_of-normal.ensures c.support-last.ensures (said
     c.behind.ensures c.if-behind.true)
 
-pub round-s-requires-clause-ready : goal.round-s-requires-clause-ready
-round-s-requires-clause-ready c = ready c.loop-q.invariant c.places_of-v.ensures
-    c.edges_of-x.ensures c.normal_of-n.ensures c.support-p.ensures
+pub round-requires-clause-ready : goal.round-requires-clause-ready
+round-requires-clause-ready c = ready c.loop-q.invariant c.places_of-v.ensures
+    c.edges_of-x.ensures c.normal_of-normal.ensures c.support-last.ensures
     c.requires.placed (unsaid c.behind.ensures c.if-behind.false)
 
-pub round-s-requires-clause-edges : goal.round-s-requires-clause-edges
-round-s-requires-clause-edges c = c.edges_of-x.ensures
+pub round-requires-clause-edges : goal.round-requires-clause-edges
+round-requires-clause-edges c = c.edges_of-x.ensures
 
-pub returns-then-s-eq0 : goal.returns-then-s-eq0
-returns-then-s-eq0 c =
+pub returns-in-None : goal.returns-in-None
+returns-in-None c =
     walked_met c.loop-q.invariant c.places_of-v.ensures
-    c.edges_of-x.ensures c.normal_of-n.ensures
-    c.support-p.ensures c.round-s.ensures c.if-s-eq0.true
+    c.edges_of-x.ensures c.normal_of-normal.ensures
+    c.support-last.ensures c.in-None.ensures
 
 pub loop-q-smaller : goal.loop-q-smaller
 loop-q-smaller c =
-    (onward c.loop-q.invariant
-    c.places_of-v.ensures c.support-p.ensures.tagged
-    c.round-s.ensures c.if-s-eq0.false c.replaced-t.ensures).less
+    (onward _ c.loop-q.invariant c.places_of-v.ensures c.support-last.ensures.tagged
+    c.in-Some.ensures c.replaced-t.ensures).less
 
 pub loop-q-preserved : goal.loop-q-preserved
 loop-q-preserved c =
-    (onward c.loop-q.invariant
-    c.places_of-v.ensures c.support-p.ensures.tagged
-    c.round-s.ensures c.if-s-eq0.false c.replaced-t.ensures).begun
+    (onward _ c.loop-q.invariant c.places_of-v.ensures c.support-last.ensures.tagged
+    c.in-Some.ensures c.replaced-t.ensures).begun

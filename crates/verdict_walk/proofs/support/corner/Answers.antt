@@ -12,7 +12,7 @@ unfolding corner_at
 returns c =
     let i = c.args.i in
     let near = c.requires.placed.near in
-    made _ (search (known, k-is c.wide.ensures, near.all (3 * i) (omega arith)) depth 9)
-    (search (known, k-is c.wide-2.ensures, near.all (3 * i + 1) (omega arith)) depth 9)
-    (search (known, k-is c.wide-3.ensures, near.all (3 * i + 2) (omega arith)) depth 9)
+    made _ (search (known, k-is c.from.ensures, near.all (3 * i) (omega arith)) depth 9)
+    (search (known, k-is c.from-2.ensures, near.all (3 * i + 1) (omega arith)) depth 9)
+    (search (known, k-is c.from-3.ensures, near.all (3 * i + 2) (omega arith)) depth 9)
     tt

@@ -31,7 +31,6 @@ loop-i-init c =
     let h = some_corner c.requires.placed in (
       worth (k_back w64 _ (k-is (c.dot-far.ensures ∙ ap (dot c.args.d) c.corner.ensures.0) (k_within (far_within c.requires.upto c.requires.placed 0 h)))) tt,
       omega arith,
-      h,
       λ k h. let e : k ≡ 0 = omega arith in le_of_eq (ap (λ j. dot c.args.d (corner_at c.args.s.now j)) e),
     )
 
@@ -53,9 +52,9 @@ loop-i-preserved c =
     let v-known = k-is v-is (k_within (far_within c.requires.upto c.requires.placed l.i (omega arith))) in
     let test = t_less (to_z w64 l.far-bits) (to_z w64 (of_z w64 c.dot-v.result)) far-is (k_back w64 c.dot-v.result v-known) in
     elim c.if-far-v.branch [
-      | then-far-v w ↦ rw w.best-is (w.far-is ∙ worth (k_back w64 _ v-known) tt, omega arith, omega arith, most_taken f l.best l.i l.invariant.3 (lt-true w.if-far-v.true test tt))
-      | else-far-v w ↦ rw w.best-is (w.far-is ∙ l.invariant.0, omega arith, omega arith, below_more (λ k. f k ≤ℤ f l.best) l.i l.invariant.3 (lt-false w.if-far-v.false test tt))
+      | then-far-v w ↦ rw w.best-is (w.far-is ∙ worth (k_back w64 _ v-known) tt, omega arith, most_taken f l.best l.i l.invariant.2 (lt-true w.if-far-v.true test tt))
+      | else-far-v w ↦ rw w.best-is (w.far-is ∙ l.invariant.0, omega arith, below_more (λ k. f k ≤ℤ f l.best) l.i l.invariant.2 (lt-false w.if-far-v.false test tt))
     ]
 
 pub returns : goal.returns
-returns c = record { inside = omega arith; most = λ k h. c.loop-i.invariant.3 k (omega arith) }
+returns c = record { inside = omega arith; most = λ k h. c.loop-i.invariant.2 k (omega arith) }

@@ -11,5 +11,5 @@ overflow_sub-result c = fits (search known depth 15) tt
 pub returns-then-n-lt0 : goal.returns-then-n-lt0
 returns-then-n-lt0 c = signed_below (lt-true c.if-n-lt0.true (search tested depth 9) tt) c.requires (worth (search known depth 9) tt)
 
-pub returns : goal.returns
-returns c = signed_above (lt-false c.if-n-lt0.false (search tested depth 9) tt) c.requires (worth (search known depth 9) tt)
+pub returns-else-n-lt0 : goal.returns-else-n-lt0
+returns-else-n-lt0 c = signed_above (lt-false c.if-n-lt0.false (search tested depth 9) tt) c.requires (worth (search known depth 9) tt)

@@ -1,8 +1,0 @@
--- `verdict_frame::difference`: the two corners' difference, with their numbers.
-use mathlib.Core.Path.{refl, ap₂, ◌∙◌}
-use Rattle.space.specs.Vectors.{minus}
-use Rattle.verdict_frame.specs.FrameLaws.{point_eq}
-use Rattle.verdict_frame.proofs.frame.difference.Goals as goal
-
-pub returns : goal.returns
-returns c = point_eq (c.minus-at.ensures.0 ∙ ap₂ minus c.corner-a.ensures.0 c.corner-b.ensures.0) refl

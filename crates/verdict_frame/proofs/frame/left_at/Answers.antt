@@ -1,9 +1,0 @@
--- `verdict_frame::left_at`: by the test that the definition makes.
-use borrow.Author.Tests.{lt-ltb, le-ltb}
-use Rattle.verdict_frame.proofs.frame.left_at.Goals as goal
-
-pub returns-then-k-m : goal.returns-then-k-m
-returns-then-k-m c = simp (lt-ltb _ _ c.if-k-m.true)
-
-pub returns : goal.returns
-returns c = simp (le-ltb _ _ c.if-k-m.false)
