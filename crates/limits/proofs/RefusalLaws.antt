@@ -1,16 +1,21 @@
 -- No two refusals have one number (`number_once`), and none has the number of what is done (`number_some`).
 -- So two answers with one number are one answer, where their values are equal too (`result_once`).
 -- And the order that the refusals derive is that of their numbers, so that `min` of two is the lower (`min_is`).
-use Rattle.std.specs.Prelude.{◌≡◌, refl, ◌<◌, suc, List, [], ◌∷◌, Bool, true, false, cond, ltb, ℤ, pos, Result, Ok, Err}
-use Rattle.std.specs.Ordering.{int_cmp, is_lt, ord_min}
-use Rattle.std.specs.Cmp.Derive.{number}
-use Rattle.std.proofs.Common.{ap, ap₂, ◌∙◌, arith, rules, Less, Greater, Equal}
+use Rattle.std.specs.Prelude.{◌≡◌, refl, ◌<◌, suc, List, [], ◌∷◌, cond, ltb, Result, Ok, Err}
+use Rattle.std.specs.Ordering.{is_lt, ord_min}
+use Rattle.std.specs.Cmp.Derive.{points}
+use Rattle.std.proofs.Common.{sym, ap, ap₂, ◌∙◌, inl, inr, arith, rules, Less, Greater, Equal}
+use Rattle.std.proofs.lemmas.Bool.Decides.{nat_tests}
+use lib.Dec.{leb-suc-suc}
+use denote.Struct.Field.{Field}
 use denote.Enum.Bare.{tag_one}
-use denote.Enum.Declared.{tag_of}
+use denote.Enum.Compared.{by}
+use denote.Enum.Declared.{Choice, rowss, intoss, tag_of}
+use denote.Enum.Enum.{tag}
 use Rattle.limits.specs.Refusals.{number_of, answer_number}
 use Rattle.limits.specs.declared.Refusal.{Refusal}
 use Rattle.limits.specs.declared.Refusal.TheVariants.{Disorder}
-use Rattle.limits.specs.contracts.Refusal.{the_type}
+use Rattle.limits.specs.contracts.Refusal.{the_type, enum}
 use Rattle.limits.specs.contracts.RefusalOrd.TheImpl as impl
 
 -- the refusals stand in the order of their numbers, from 1 on
@@ -32,23 +37,18 @@ result_once (Ok x) (Err r) e f = absurd (omega (arith, number_some r))
 result_once (Err q) (Ok y) e f = absurd (omega (arith, number_some q))
 
 -- ---- the order
--- the numbers that src/lib.rt gives the refusals
-abbrev given : List ℤ
-given =
-    pos 1 ∷ pos 2 ∷ pos 3 ∷ pos 4 ∷ pos 5 ∷ pos 6 ∷ pos 7 ∷ pos 8 ∷ pos 9 ∷ pos 10 ∷ pos 11 ∷ pos 12 ∷ pos 13 ∷ pos 14 ∷ pos 15 ∷ pos 16 ∷ pos 17 ∷ pos 18
-    ∷ pos 19 ∷ pos 20 ∷ pos 21 ∷ pos 22 ∷ pos 23 ∷ pos 24 ∷ pos 25 ∷ pos 26 ∷ []
+-- the order of an enum whose variants have no fields is that of their places
+by_place : (Fss : List (List Field)) (c d : Choice Fss) → is_lt (by Less Greater Fss (points Equal Fss) c d) ≡ ltb (tag (rowss Fss) (intoss Fss c)) (tag (rowss Fss) (intoss Fss d))
+by_place [] c d = absurd c
+by_place (Fs ∷ Fss) (inl x) (inl y) = refl
+by_place (Fs ∷ Fss) (inl x) (inr y) = grind (arith, nat_tests)
+by_place (Fs ∷ Fss) (inr x) (inl y) = grind (arith, nat_tests)
+by_place (Fs ∷ Fss) (inr x) (inr y) = by_place Fss x y ∙ sym (leb-suc-suc _ _)
 
-are_given : (r : Refusal) → number the_type given r ≡ pos (number_of r)
-are_given Disorder = refl
-are_given r = refl
-
-order_of : (q r : Refusal) → impl.cmp-value.it q r ≡ int_cmp (pos (number_of q)) (pos (number_of r))
-order_of q r = ap₂ int_cmp (are_given q) (are_given r)
-
-below : (b c : Bool) → is_lt (cond b Less (cond c Greater Equal)) ≡ b
-below true c = refl
-below false true = refl
-below false false = refl
+-- less by place is less by number
+less : (q r : Refusal) → is_lt (impl.cmp-value.it q r) ≡ ltb (number_of q) (number_of r)
+less q r =
+    by_place enum.parts (enum.as_values q) (enum.as_values r) ∙ sym (leb-suc-suc _ _) ∙ ap₂ ltb (in_order q) (in_order r)
 
 pub min_is : (q r : Refusal) → ord_min impl.cmp-value.it q r ≡ cond (ltb (number_of r) (number_of q)) r q
-min_is q r = ap (λ b. cond b r q) (ap is_lt (order_of r q) ∙ below (ltb (number_of r) (number_of q)) (ltb (number_of q) (number_of r)))
+min_is q r = ap (λ b. cond b r q) (less r q)

@@ -1,5 +1,5 @@
 // Every number that document 01 fixes and a request may change or add to, once: sizes (W4's), ranges, and the refusals by name.
-// specs/ has the same numbers for contracts; the five `tied_` functions below tie the two together.
+// specs/ has the same numbers for contracts; the four `tied_` functions below tie the two together.
 #![tactic(auto)]
 
 ghost use Rattle.std.specs.Prelude.{◌≡◌};
@@ -131,35 +131,35 @@ pub const COMMA_REFUSED: u8 = 25;
 
 pub const BAD_TEXT: u8 = 26;
 
-// The refusals of document 01, "When the desk says no", by name and number; behind PlacedRange those that requests add (document 02).
+// The refusals of document 01, "When the desk says no", by name, and in the order of their numbers; behind PlacedRange those that requests add (document 02).
 #[derive(Clone, Copy, PartialEq, Eq, PartialOrd, Ord)]
 pub enum Refusal {
-    Disorder = 1,
-    ShapeNumber = 2,
-    ListLength = 3,
-    CornerRange = 4,
-    ShapeLoaded = 5,
-    ShapeMissing = 6,
-    PlaceNumber = 7,
-    PlaceTaken = 8,
-    PlaceEmpty = 9,
-    TurnNumber = 10,
-    OffsetRange = 11,
-    SamePlace = 12,
-    ShortRoom = 13,
-    LengthForm = 14,
-    LengthRange = 15,
-    NotFinite = 16,
-    NotWhole = 17,
-    FloatRange = 18,
-    SizeZero = 19,
-    PlacedRange = 20,
-    FileLength = 21,
-    CountZero = 22,
-    ManyCorners = 23,
-    GapRefused = 24,
-    CommaRefused = 25,
-    BadText = 26,
+    Disorder,
+    ShapeNumber,
+    ListLength,
+    CornerRange,
+    ShapeLoaded,
+    ShapeMissing,
+    PlaceNumber,
+    PlaceTaken,
+    PlaceEmpty,
+    TurnNumber,
+    OffsetRange,
+    SamePlace,
+    ShortRoom,
+    LengthForm,
+    LengthRange,
+    NotFinite,
+    NotWhole,
+    FloatRange,
+    SizeZero,
+    PlacedRange,
+    FileLength,
+    CountZero,
+    ManyCorners,
+    GapRefused,
+    CommaRefused,
+    BadText,
 }
 
 impl Refusal {
@@ -167,7 +167,34 @@ impl Refusal {
     pub fn number(self) -> u8
         ensures { result ≡ number_of self }
     {
-        self as u8
+        match self {
+            Refusal::Disorder => DISORDER,
+            Refusal::ShapeNumber => SHAPE_NUMBER,
+            Refusal::ListLength => LIST_LENGTH,
+            Refusal::CornerRange => CORNER_RANGE,
+            Refusal::ShapeLoaded => SHAPE_LOADED,
+            Refusal::ShapeMissing => SHAPE_MISSING,
+            Refusal::PlaceNumber => PLACE_NUMBER,
+            Refusal::PlaceTaken => PLACE_TAKEN,
+            Refusal::PlaceEmpty => PLACE_EMPTY,
+            Refusal::TurnNumber => TURN_NUMBER,
+            Refusal::OffsetRange => OFFSET_RANGE,
+            Refusal::SamePlace => SAME_PLACE,
+            Refusal::ShortRoom => SHORT_ROOM,
+            Refusal::LengthForm => LENGTH_FORM,
+            Refusal::LengthRange => LENGTH_RANGE,
+            Refusal::NotFinite => NOT_FINITE,
+            Refusal::NotWhole => NOT_WHOLE,
+            Refusal::FloatRange => FLOAT_RANGE,
+            Refusal::SizeZero => SIZE_ZERO,
+            Refusal::PlacedRange => PLACED_RANGE,
+            Refusal::FileLength => FILE_LENGTH,
+            Refusal::CountZero => COUNT_ZERO,
+            Refusal::ManyCorners => MANY_CORNERS,
+            Refusal::GapRefused => GAP_REFUSED,
+            Refusal::CommaRefused => COMMA_REFUSED,
+            Refusal::BadText => BAD_TEXT,
+        }
     }
 }
 
