@@ -18,9 +18,6 @@ use limits::Refusal;
 use pieces::placement::{Offset, Placement};
 use verdict::pair_of_lists;
 
-// The number of what is done (document 01).
-const DONE: u8 = 0;
-
 // The answer to a command: a refusal's number, or 0 and the count.
 // Stays: C reads the number and the count as two fields.
 #[repr(C)]
@@ -44,7 +41,7 @@ fn reply_to(answer: Result<u32, Refusal>) -> Reply
 {
     match answer {
         Ok(count) => Reply {
-            number: DONE,
+            number: limits::DONE,
             count,
         },
         Err(refusal) => Reply {
@@ -237,14 +234,9 @@ pub extern "C" fn bench_desk_in_order(
 pub extern "C" fn bench_desk_pair_of_lists(first: &[i32], second: &[i32]) -> VerdictReply
     ensures { RepliesVerdict first.now second.now result }
 {
-    match pair_of_lists(0, first, second) {
-        Ok(v) => VerdictReply {
-            number: limits::DONE,
-            verdict: v.number(),
-        },
-        Err(refusal) => VerdictReply {
-            number: refusal.number(),
-            verdict: 0,
-        },
-    }
+    let (number, verdict) = match pair_of_lists(0, first, second) {
+        Ok(v) => (limits::DONE, v.number()),
+        Err(refusal) => (refusal.number(), 0),
+    };
+    VerdictReply { number, verdict }
 }
