@@ -1,13 +1,13 @@
 -- Laws of hex words: a pattern is read digit by digit, a text's bytes pair by pair.
 -- Two answers that are allowed for one word are equal (`pattern_once`, `text_once`).
-use Rattle.std.specs.Prelude.{ℕ, zero, suc, ◌≤◌, ◌<◌, ◌+◌, ◌*◌, ◌^◌, ◌≡◌, refl, List, [], ◌∷◌, ◌++◌, true, length, get_or, drop, Option, Some, None}
+use Rattle.std.specs.Prelude.{ℕ, zero, suc, ◌≤◌, ◌<◌, ◌+◌, ◌-◌, ◌*◌, ◌^◌, ◌≡◌, refl, List, [], ◌∷◌, ◌++◌, true, false, length, get_or, drop, Option, Some, None}
 use Rattle.std.proofs.Common.{sym, ap, ap₂, ◌∙◌, subst, mul_assoc, add-mul, zero-mul, arith}
 use Rattle.std.specs.Char.{digit_value, is_ascii_hexdigit}
 use Rattle.std.specs.List.{list_all}
 use Rattle.std.proofs.lemmas.Bool.{and_parts}
 use Rattle.std.proofs.lemmas.Bool.Decides.{nat_tests}
 use Rattle.std.proofs.Math.Nat.{pow-succ'}
-use Rattle.text_hex.specs.Hex.{worth_of, HexDigits, hex_number, PatternReads, bytes_of, TextReads}
+use Rattle.text_hex.specs.Hex.{in_range, worth_of, HexDigits, hex_number, PatternReads, bytes_of, TextReads}
 
 -- ---- one answer
 pub pattern_once : (word : List ℕ) (q r : Option ℕ) → PatternReads word q → PatternReads word r → q ≡ r
@@ -64,7 +64,25 @@ bytes_half (a ∷ []) n h = absurd (omega arith)
 bytes_half (a ∷ b ∷ s) zero h = absurd (omega arith)
 bytes_half (a ∷ b ∷ s) (suc n) h = ap suc (bytes_half s n (omega arith))
 
--- ---- what a digit is worth, in the library's words: the value of a hex digit, and 16 where the byte is none
+-- ---- what a digit is worth, by the range that it lies in
+module _ (b : ℕ) where
+  pub worth_figure : in_range 48 57 b ≡ true → b - 48 ≡ worth_of b
+  unfolding worth_of
+  worth_figure e = rw e
+
+  pub worth_capital : in_range 48 57 b ≡ false → in_range 65 70 b ≡ true → b - 55 ≡ worth_of b
+  unfolding worth_of
+  worth_capital n e = rw (n, e)
+
+  pub worth_small : in_range 48 57 b ≡ false → in_range 65 70 b ≡ false → in_range 97 102 b ≡ true → b - 87 ≡ worth_of b
+  unfolding worth_of
+  worth_small n m e = rw (n, m, e)
+
+  pub worth_none : in_range 48 57 b ≡ false → in_range 65 70 b ≡ false → in_range 97 102 b ≡ false → 16 ≡ worth_of b
+  unfolding worth_of
+  worth_none n m k = rw (n, m, k)
+
+-- ---- and in the library's words: the value of a hex digit, and 16 where the byte is none
 pub worth_value : (b : ℕ) → digit_value b < 16 → worth_of b ≡ digit_value b
 unfolding worth_of
 worth_value b = grind (arith, nat_tests)

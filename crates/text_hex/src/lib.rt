@@ -79,6 +79,7 @@ fn byte(high: u8, low: u8) -> u8
 }
 
 // What a hex digit is worth.
+#[tactic(auto, using(crate::specs::HexLaws::worth_value, crate::specs::HexLaws::worth_some, crate::specs::HexLaws::hex_below))]
 fn worth(digit: u8) -> Option<u32>
     ensures { SomeIff result (worth_of digit < 16) (worth_of digit) }
 {
