@@ -1,6 +1,6 @@
 -- Laws of numbers as words: a word names one number at most, so two answers that are allowed for one word are equal (`reads_once`).
 -- And the digits, read first, with the sign after them, are the answer that Numbers promises.
-use Rattle.std.specs.Prelude.{ℕ, ◌<◌, ◌≡◌, List, ◌∷◌, ℤ, Option, Some, None, Result, Ok, Err, length}
+use Rattle.std.specs.Prelude.{ℕ, ◌<◌, ◌≡◌, List, ◌∷◌, ℤ, Option, Some, None, SomeIff, Result, Ok, Err, length}
 use Rattle.std.proofs.Common.{sym, ◌∙◌, arith}
 use Rattle.std.proofs.Math.Path.{ap, subst}
 use Rattle.std.specs.Int.{w32}
@@ -36,6 +36,11 @@ reads_once word None None a b = cc
 -- its magnitude fits 64 bits
 pub figures_below : {word : List ℕ} → Figures word → number word < 10000000000
 figures_below {word} f = number_few 10 word f.digits f.few
+
+-- the number itself, where it fits, in whatever spelling it stands
+pub fitted : {word : List ℕ} {v w : ℤ} (o : Option ℤ) → Spells word v → w ≡ v → SomeIff o (FitsSigned w32 w) w → Reads word o
+fitted {word} (Some x) s e k = (subst (Spells word) (sym (k.1 ∙ e)) s, subst Fits (sym k.1) (in_fits w32 _ k.0))
+fitted None s e n = λ x t f. n (subst (FitsSigned w32) (spells_once t s ∙ sym e) (fits_in w32 x 2147483648 2147483647 f (omega arith) (omega arith)))
 
 -- what the conversion to 32 bits makes of it, which may stand in another spelling
 pub converted : {E : Type 0} {word : List ℕ} {v w : ℤ} (r : Result ℤ E) {o : Option ℤ} → Spells word v → w ≡ v → OkIff r (FitsSigned w32 w) w → o ≡ result_ok r → Reads word o

@@ -2,7 +2,8 @@
 // The digits are read without a sign, into a type that holds ten of them.
 #![tactic(auto)]
 
-ghost use Rattle.std.specs.Prelude.{◌≡◌};
+ghost use Rattle.std.specs.Prelude.{◌≡◌, FitsSigned, SomeIff};
+ghost use Rattle.std.specs.Int.{w32};
 ghost use Rattle.text_number.specs.Numbers.{Reads};
 ghost use Rattle.text_number.specs.Magnitude.{Magnitude};
 
@@ -15,9 +16,16 @@ pub fn read_number(word: &[u8]) -> Option<i32>
     ensures { Reads word.now result }
 {
     match word.strip_prefix(b"-") {
-        Some(digits) => i32::try_from(-magnitude(digits)?).ok(),
-        None => i32::try_from(magnitude(word)?).ok(),
+        Some(digits) => fitting(-magnitude(digits)?),
+        None => fitting(magnitude(word)?),
     }
+}
+
+// A number, where it fits 32 bits signed.
+fn fitting(number: i64) -> Option<i32>
+    ensures { SomeIff result (FitsSigned w32 number) number }
+{
+    i32::try_from(number).ok()
 }
 
 // The number without its sign, where the word is 1 to 10 digits.

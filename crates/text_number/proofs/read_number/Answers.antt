@@ -5,14 +5,14 @@ use Rattle.std.proofs.lemmas.Int.{ints}
 use Rattle.std.proofs.lemmas.Slice.Eq.{strip_prefix_is}
 use Rattle.text_number.specs.Numbers.{plain, minus}
 use Rattle.text_number.specs.Magnitude.{Magnitude}
-use Rattle.text_number.specs.NumberLaws.{figures_below, converted, no_minus, no_plain}
+use Rattle.text_number.specs.NumberLaws.{figures_below, fitted, no_minus, no_plain}
 use Rattle.text_number.proofs.read_number.Goals as goal
 
 pub returns-in_ok-magnitude-in-Some : goal.returns-in_ok-magnitude-in-Some
 returns-in_ok-magnitude-in-Some c =
     let p = strip_prefix_is Decides-eqb c.args.word.now (45 ∷ []) (Some c.in-Some.digits) c.in-Some.ensures.cases in
     let m : Magnitude c.in-Some.digits.now (Some c.in_ok-magnitude-in-Some.field-0) = c.in_ok-magnitude-in-Some.ensures in
-    converted c.try_from.result (minus c.in-Some.digits.now p m.0 (ap neg_ℤ m.1)) (omega (arith, ints, m.1, figures_below m.0)) c.try_from.ensures c.ok.ensures.value
+    fitted c.fitting.result (minus c.in-Some.digits.now p m.0 (ap neg_ℤ m.1)) (omega (arith, ints, m.1, figures_below m.0)) c.fitting.ensures
 
 pub returns-in_err-magnitude-in-Some : goal.returns-in_err-magnitude-in-Some
 returns-in_err-magnitude-in-Some c =
@@ -22,7 +22,7 @@ returns-in_err-magnitude-in-Some c =
 pub returns-in_ok-magnitude-in-None : goal.returns-in_ok-magnitude-in-None
 returns-in_ok-magnitude-in-None c =
     let m : Magnitude c.args.word.now (Some c.in_ok-magnitude-in-None.field-0) = c.in_ok-magnitude-in-None.ensures in
-    converted c.try_from-in-None.result (plain m.0 m.1) (omega (arith, ints, m.1, figures_below m.0)) c.try_from-in-None.ensures c.ok-in-None.ensures.value
+    fitted c.fitting-in-None.result (plain m.0 m.1) (omega (arith, ints, m.1, figures_below m.0)) c.fitting-in-None.ensures
 
 pub returns-in_err-magnitude-in-None : goal.returns-in_err-magnitude-in-None
 returns-in_err-magnitude-in-None c =
