@@ -7,6 +7,7 @@ ghost use Rattle.limits.specs.Decides.{Decides};
 ghost use Rattle.limits.specs.Refusals.{answer_number, number_of};
 ghost use Rattle.scans.specs.Scanned.{lower_of};
 ghost use Rattle.off_text.specs.Off.{off, words_in, EachWord};
+ghost use Rattle.off_text.specs.Walk.{Behind};
 ghost use Rattle.off_read.specs.Corners.{WordsWritten, OffReadAs, off_read_of};
 ghost use Rattle.off_read.specs.Passes.{HeadAs, Taken, NumbersAs, BodyAs, LayoutAs, FillsAs};
 
@@ -36,7 +37,8 @@ fn is_off(word: &[u8]) -> bool
 
 // The three counts, of which the first two are below a bound. What the third, of edges, names is not worked out.
 fn counts(words: &mut Words<'_>, bound: usize) -> Option<Head>
-    ensures { HeadAs bound (words_in words.old.rest.now) result words.new.rest.now }
+    ensures behind { Behind words.old.rest.now words.new.rest.now }
+    ensures told { HeadAs bound (words_in words.old.rest.now) result words.new.rest.now }
 {
     let corners = words.next_below(bound)?;
     let faces = words.next_below(bound)?;
@@ -50,7 +52,8 @@ fn counts(words: &mut Words<'_>, bound: usize) -> Option<Head>
 
 // The next n words as numbers: 26 at the first that is none, and else the lower of 17 and 18 that any of them has.
 fn numbers(words: &mut Words<'_>, n: usize) -> Result<(), Refusal>
-    ensures { NumbersAs n (words_in words.old.rest.now) (answer_number result) words.new.rest.now }
+    ensures behind { Behind words.old.rest.now words.new.rest.now }
+    ensures told { NumbersAs n (words_in words.old.rest.now) (answer_number result) words.new.rest.now }
 {
     let mut found = Ok(());
     for i in 0..n {
@@ -80,12 +83,16 @@ fn lower(found: Result<(), Refusal>, refusal: Refusal) -> Refusal
 
 // The corners' numbers, and the faces behind them. A text has as many bytes as words, at least, so that three times a count that it can have fits.
 fn body(words: &mut Words<'_>, corners: usize, faces: usize) -> Result<(), Refusal>
-    ensures { BodyAs corners faces (words_in words.old.rest.now) (answer_number result) }
+    ensures behind { Behind words.old.rest.now words.new.rest.now }
+    ensures told { BodyAs corners faces (words_in words.old.rest.now) (answer_number result) }
 {
     if words.rest.len() / 3 < corners {
         return Err(Refusal::BadText);
     }
     let judged = numbers(words, 3 * corners);
+    if matches!(judged, Err(Refusal::BadText)) {
+        return judged;
+    }
     if off_text::faces(words, corners, faces) {
         return judged;
     }

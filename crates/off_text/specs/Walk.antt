@@ -41,6 +41,7 @@ BelowAs bound word r = MatchOption r (Names bound word → ⊥) (λ n. Names bou
 
 -- the next word as a number below the bound, and the words behind it
 pub record CountedAs (bound : ℕ) (s : List ℕ) (r : Option ℕ) (t : List ℕ) : Type 0 where
+  pub behind : Behind s t
   pub value : BelowAs bound (word_at (words_in s) 0) r
   pub rest : words_in t ≡ drop 1 (words_in s)
 

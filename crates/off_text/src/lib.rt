@@ -2,13 +2,13 @@
 // A text may be any bytes, of any length. What is left of it never starts inside a comment, and nothing is copied.
 #![tactic(auto)]
 
-ghost use Rattle.std.specs.Prelude.{◌+◌, ◌≤◌, ◌<◌, ◌*◌, ◌-◌, ◌≡◌, not, [], length, drop, position, MatchOption};
+ghost use Rattle.std.specs.Prelude.{◌+◌, ◌≤◌, ◌<◌, ◌*◌, ◌-◌, ◌≡◌, true, not, [], length, drop, position, MatchOption};
 ghost use Rattle.std.specs.Char.{is_ascii_digit};
 ghost use Rattle.std.specs.List.{list_all};
 ghost use Rattle.limits.specs.Decides.{Decides};
 ghost use Rattle.text_digits.specs.Decimal.{Digit};
 ghost use Rattle.off_text.specs.Off.{CommaOutside, white, words_in, IsCount, Faces};
-ghost use Rattle.off_text.specs.Walk.{plain, PassedAs, StartAs, NextAs, BelowAs, CountedAs, IndicesAs, FaceAs};
+ghost use Rattle.off_text.specs.Walk.{plain, Behind, PassedAs, StartAs, NextAs, BelowAs, CountedAs, IndicesAs, FaceAs};
 
 // What is left behind the comment that a text starts with, or else behind its first byte.
 fn passed(text: &[u8]) -> &[u8]
@@ -79,6 +79,7 @@ impl<'a> Words<'a> {
     // The next word; nothing where there is none.
     pub fn next_word(&mut self) -> Option<&'a [u8]>
         ensures next { MatchOption result (words_in self.old.rest.now ≡ []) (λ w. NextAs self.old.rest.now w.now self.new.rest.now) }
+        ensures behind { Behind self.old.rest.now self.new.rest.now }
         ensures rest { words_in self.new.rest.now ≡ drop 1 (words_in self.old.rest.now) }
     {
         let start = word_start(self.rest);
@@ -136,7 +137,8 @@ fn below(word: &[u8], bound: usize) -> Option<usize>
 
 // Whether the next n words name corners.
 fn indices(words: &mut Words<'_>, corners: usize, n: usize) -> bool
-    ensures { IndicesAs corners n (words_in words.old.rest.now) result words.new.rest.now }
+    ensures behind { Behind words.old.rest.now words.new.rest.now }
+    ensures told { IndicesAs corners n (words_in words.old.rest.now) result words.new.rest.now }
 {
     for i in 0..n {
         if words.next_below(corners).is_none() {
@@ -148,7 +150,8 @@ fn indices(words: &mut Words<'_>, corners: usize, n: usize) -> bool
 
 // Whether the next words are a face: a number n and n indices. No number that so many words follow is as large as what is left of the text.
 fn face(words: &mut Words<'_>, corners: usize) -> bool
-    ensures { FaceAs corners (words_in words.old.rest.now) result words.new.rest.now }
+    ensures behind { Behind words.old.rest.now words.new.rest.now }
+    ensures told { FaceAs corners (words_in words.old.rest.now) result words.new.rest.now }
 {
     match words.next_below(words.rest.len()) {
         Some(n) => indices(words, corners, n),
@@ -158,7 +161,9 @@ fn face(words: &mut Words<'_>, corners: usize) -> bool
 
 // Whether the words that are left are so many faces, and nothing follows the last.
 pub fn faces(words: &mut Words<'_>, corners: usize, count: usize) -> bool
-    ensures { Decides result (Faces corners count (words_in words.old.rest.now)) }
+    ensures behind { Behind words.old.rest.now words.new.rest.now }
+    ensures told { Decides result (Faces corners count (words_in words.old.rest.now)) }
+    ensures none_left { result ≡ true → words_in words.new.rest.now ≡ [] }
 {
     for i in 0..count {
         if !face(words, corners) {

@@ -3,5 +3,5 @@ use mathlib.Core.Path.{refl}
 use Rattle.off_read.specs.LayoutLaws.{body_few}
 use Rattle.off_read.proofs.body.Goals as goal
 
-pub returns-then-words-corners : goal.returns-then-words-corners
-returns-then-words-corners c = record { bad = λ _. body_few c.args.corners c.args.faces c.args.words.now.rest.now c.if-words-corners.true; good = λ f. absurd (f refl) }
+pub returns-then-words-corners-clause-told : goal.returns-then-words-corners-clause-told
+returns-then-words-corners-clause-told c = record { bad = λ _. body_few c.args.corners c.args.faces c.args.words.now.rest.now c.if-words-corners.true; good = λ f. absurd (f refl) }

@@ -14,13 +14,14 @@ use Rattle.limits.proofs.RefusalLaws.{number_once}
 use Rattle.off_number.specs.OffNumber.{IsNumber, number_read_of, NumberReadAs}
 use Rattle.off_text.specs.FaceLaws.{word-is, word_none, words_after}
 use Rattle.off_text.specs.Off.{words_in}
+use Rattle.off_text.specs.WalkLaws.{behind_on}
 use Rattle.off_read.specs.NumberLaws.{empty_number, bad_word, lower_done, judged_more}
 use Rattle.off_read.specs.Passes.{NumbersJudged}
 use Rattle.off_read.proofs.numbers.Goals as goal
 use Rattle.off_read.proofs.numbers.Goals.{in-Err+else-eq, in-Ok}
 
-pub returns-in_err-word : goal.returns-in_err-word
-returns-in_err-word c =
+pub returns-in_err-word-clause-told : goal.returns-in_err-word-clause-told
+returns-in_err-word-clause-told c =
     let words = words_in c.args.words.now.rest.now in
     let none = rw c.in_err-word.ensures.ok_part at c.next_word.ensures.next in
     let empty = word_none words c.loop-i.i _ c.loop-i.invariant.0 none in
@@ -29,8 +30,8 @@ returns-in_err-word c =
     let b : p.0 ≡ BadText = cc in
     rw (p.1, b) (record { bad = λ _ h. empty_number (subst IsNumber empty (h c.loop-i.i c.loop-i-test.true)); good = λ f. absurd (f refl) })
 
-pub returns-then-eq : goal.returns-then-eq
-returns-then-eq c =
+pub returns-then-eq-clause-told : goal.returns-then-eq-clause-told
+returns-then-eq-clause-told c =
     let words = words_in c.args.words.now.rest.now in
     let next = rw c.in_ok-word.ensures.ok_part at c.next_word.ensures.next in
     let e = word-is words c.loop-i.i _ c.loop-i.invariant.0 next in
@@ -52,4 +53,4 @@ loop-i-preserved c =
       | in-Ok w ↦ subst (λ (k : ℕ). NumbersJudged (i + 1) words k) (lower_done (answer_number c.loop-i.found) ∙ sym (ap answer_number w.found-is))
           (judged_more i words c.loop-i.invariant.1 (subst (λ t. NumberReadAs t (number_read_of (Ok w.in-Ok.field-0))) e w.in-Ok.ensures) (λ z. omega (arith, z)))
     ] in
-    (words_after words i _ c.loop-i.invariant.0 next, judged)
+    (words_after words i _ c.loop-i.invariant.0 next, judged, behind_on c.loop-i.invariant.2 c.next_word.ensures.behind)
