@@ -12,7 +12,7 @@ use Rattle.off_number.specs.OffNumber.{IsNumber}
 use Rattle.off_text.specs.Off.{off, words_in, word_at, IsCount, Names, IsOff, corner_count, face_count}
 use Rattle.off_text.specs.OffLaws.{words_few}
 use Rattle.off_text.specs.FaceLaws.{word_none, word-is, words_after, each_there, empty_count, count_there, count-is, count_after, faces_few}
-use Rattle.off_text.specs.Walk.{Behind, NextAs, CountedAs}
+use Rattle.off_text.specs.Walk.{NextAs, CountedAs}
 use Rattle.off_read.specs.NumberLaws.{empty_number}
 use Rattle.off_read.specs.Passes.{Counts, HeadRead, Body, BodyAs, TextJudged, LayoutRead, LayoutAs}
 use Rattle.off_read.specs.declared.Head.{Head}
@@ -145,13 +145,13 @@ module _ (text : List ℕ) where
             }
 
         -- the answer has the body's refusal, or the corners and what was left before the body
-        pub layout_is : (q : Result Layout Refusal) → answer_number q ≡ k → IfOk q (λ l. (l.corners ≡ h.corners) × (l.numbers.now ≡ t)) → Behind text t → w ≡ off → LayoutAs text q
-        layout_is q e l d x = record {
+        pub layout_is : (q : Result Layout Refusal) → answer_number q ≡ k → IfOk q (λ l. (l.corners ≡ h.corners) × (l.numbers.now ≡ t)) → w ≡ off → LayoutAs text q
+        layout_is q e l x = record {
           bad = λ z o. told.bad (sym e ∙ z) (off_body o);
           good = λ f. subst (TextJudged text) (sym e) (judged x (λ z. f (e ∙ z)));
           read = by q l;
         }
           where
             by : (q : Result Layout Refusal) → IfOk q (λ l. (l.corners ≡ h.corners) × (l.numbers.now ≡ t)) → IfOk q (LayoutRead text)
-            by (Ok l) x = record { behind = subst (Behind text) (sym x.1) d; corners = x.0 ∙ first; words = ap words_in x.1 ∙ after }
+            by (Ok l) x = record { corners = x.0 ∙ first; words = ap words_in x.1 ∙ after }
             by (Err r) x = x

@@ -8,7 +8,6 @@ use Rattle.limits.specs.declared.Refusal.{Refusal}
 use Rattle.text_digits.specs.Decimal.{number}
 use Rattle.off_number.specs.OffNumber.{IsNumber, Inexact, Beyond, word_refusals}
 use Rattle.off_text.specs.Off.{words_in, word_at, EachWord, AnyWord, IsCount, Names, Faces, IsOff, corner_count, after_counts}
-use Rattle.off_text.specs.Walk.{Behind}
 use Rattle.off_read.specs.Corners.{corner_numbers, WordsWritten, OffRead}
 use Rattle.off_read.specs.declared.Head.{Head}
 use Rattle.off_read.specs.declared.Layout.{Layout}
@@ -61,7 +60,6 @@ pub record TextJudged (text : List ℕ) (k : ℕ) : Type 0 where
   pub judged : NumbersJudged (corner_numbers text) (after_counts text) k
 
 pub record LayoutRead (text : List ℕ) (r : Layout) : Type 0 where
-  pub behind : Behind text r.numbers.now
   pub corners : r.corners ≡ corner_count text
   pub words : words_in r.numbers.now ≡ after_counts text
 

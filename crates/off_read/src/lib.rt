@@ -2,7 +2,7 @@
 // Two passes and no copy of the text: the first tells the refusal of the whole text, the second writes.
 #![tactic(auto)]
 
-ghost use Rattle.std.specs.Prelude.{◌*◌, ◌≡◌, length};
+ghost use Rattle.std.specs.Prelude.{◌*◌, ◌≡◌, length, IfOk};
 ghost use Rattle.limits.specs.Decides.{Decides};
 ghost use Rattle.limits.specs.Refusals.{answer_number, number_of};
 ghost use Rattle.scans.specs.Scanned.{lower_of};
@@ -101,7 +101,8 @@ fn body(words: &mut Words<'_>, corners: usize, faces: usize) -> Result<(), Refus
 
 // The first pass.
 fn first_pass(text: &[u8]) -> Result<Layout<'_>, Refusal>
-    ensures { LayoutAs text.now result }
+    ensures behind { IfOk result (λ l. Behind text.now l.numbers.now) }
+    ensures told { LayoutAs text.now result }
 {
     let mut words = Words { rest: text };
     if !words.next_word().is_some_and(is_off) {
