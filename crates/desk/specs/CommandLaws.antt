@@ -23,9 +23,9 @@ use Rattle.pieces.specs.declared.placement.Offset.{Offset}
 use Rattle.pieces.specs.Pieces.{Store, count_in, held_in, axes_of, piece_at}
 use Rattle.pieces.specs.Store.{ranged}
 use Rattle.verdict.specs.declared.witnessed.Verdict.{Verdict}
-use Rattle.verdict.specs.Answers.{Answer, nothing, answer_with, Carries, OneAnswer}
-use Rattle.verdict.specs.Judged.{not_refused}
+use Rattle.verdict.specs.Answers.{Answer, nothing, answer_of, Carries, OneAnswer, OneResult}
 use Rattle.verdict.specs.AnswerLaws.{one_answer}
+use Rattle.verdict.proofs.ResultsOnce.{one_result}
 use Rattle.desk_put.specs.Handled.{Emptied, PutDown}
 use Rattle.rows_right.specs.RowLaws.{carries_at, right_once}
 use Rattle.desk_state.specs.Desk.{Desk, desk_of, gap_of, InOrder, gap_at}
@@ -167,14 +167,18 @@ contacts_once {d} {room} (Err m) (Err n) p q =
 pub pair_refuses : {d : Desk} {first second : ℤ} {n : ℕ} → Lowest (pair_refusals d first second) n → 0 < n → Pairs d first second (nothing n)
 pair_refuses h k = record { refusal = h; zeros = λ _. refl; carries = λ z. absurd (omega arith) }
 
-pub pair_answers : {d : Desk} {first second : ℤ} {i j : ℕ} (v : Verdict) → Lowest (pair_refusals d first second) 0 → i ≡ nat_abs first → j ≡ nat_abs second
-    → Carries (gap_of d) (piece_at d.store i) (piece_at d.store j) (answer_with v) → Pairs d first second (answer_with v)
-pair_answers {d} {first} {second} v h ei ej c = record {
-  refusal = subst (Lowest (pair_refusals d first second)) (sym (not_refused v)) h;
-  zeros = λ f. absurd (f (not_refused v));
-  carries = λ _. carries_at (ap (piece_at d.store) ei) (ap (piece_at d.store) ej) c;
+pub pair_answers : {d : Desk} {first second : ℤ} {i j : ℕ} {r : Answer} → Lowest (pair_refusals d first second) 0 → i ≡ nat_abs first → j ≡ nat_abs second
+    → (r.number ≡ 0) × Carries (gap_of d) (piece_at d.store i) (piece_at d.store j) r → Pairs d first second r
+pair_answers {d} {first} {second} h ei ej c = record {
+  refusal = subst (Lowest (pair_refusals d first second)) (sym c.0) h;
+  zeros = λ f. absurd (f c.0);
+  carries = λ _. carries_at (ap (piece_at d.store) ei) (ap (piece_at d.store) ej) c.1;
 }
 
 -- only witnesses may vary
 pub pairs_once : {d : Desk} {first second : ℤ} {q r : Answer} → Pairs d first second q → Pairs d first second r → OneAnswer q r
 pairs_once {d} {first} {second} a b = one_answer (lowest_once (pair_refusals d first second) a.refusal b.refusal) a.zeros b.zeros a.carries b.carries
+
+-- and of the results themselves: one refusal, or verdicts of one kind
+pub pair_result_once : {d : Desk} {first second : ℤ} (q r : Result Verdict Refusal) → Pairs d first second (answer_of q) → Pairs d first second (answer_of r) → OneResult q r
+pair_result_once q r a b = one_result q r (pairs_once a b)

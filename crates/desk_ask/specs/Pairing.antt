@@ -1,14 +1,10 @@
 -- The pair question, from its tests to its record: what the tests have asked, and the answer about the two pieces.
 -- A callee sees a signed number through its bits; each law is told that what was handed on is what was handed in.
 use Rattle.std.specs.Prelude.{◌≡◌, refl, ℕ, ℤ, nat_abs}
-use Rattle.std.proofs.Common.{sym, ap, ◌∙◌, subst, inr}
-use Rattle.limits.specs.Refusals.{number_of}
-use Rattle.limits.specs.declared.Refusal.{Refusal}
-use Rattle.limits.proofs.RefusalLaws.{number_some}
+use Rattle.std.proofs.Common.{sym, ap, ◌∙◌, subst, inr, arith}
 use Rattle.pieces.specs.Pieces.{piece_at, Taken}
 use Rattle.pieces.specs.Boxes.{PlacedPiece}
-use Rattle.verdict.specs.declared.witnessed.Verdict.{Verdict}
-use Rattle.verdict.specs.Answers.{nothing, answer_with, Carries}
+use Rattle.verdict.specs.Answers.{Answer, nothing, Carries}
 use Rattle.desk_state.specs.Desk.{Desk, gap_of, InOrder}
 use Rattle.desk_refusals.specs.Asked.{MayPair, PairAsked}
 use Rattle.desk.specs.Commands.{Pairs}
@@ -18,8 +14,8 @@ module _ (d : Desk) (first second : ℤ) {a b : ℤ} (ea : a ≡ first) (eb : b 
   pair_asked : {n : ℕ} → PairAsked d.store.places a b n → PairAsked d.store.places first second n
   pair_asked k = rw (sym ea, sym eb) k
 
-  pub pair_refused : (r : Refusal) → PairAsked d.store.places a b (number_of r) → Pairs d first second (nothing (number_of r))
-  pair_refused r k = pair_refuses (inr (λ f. f o, (pair_asked k).refusal)) (number_some r)
+  pub pair_refused : {n : ℕ} → (n ≡ 0 → ⊥) → PairAsked d.store.places a b n → Pairs d first second (nothing n)
+  pair_refused f k = pair_refuses (inr (λ f. f o, (pair_asked k).refusal)) (omega (arith, f))
 
   module _ {i j : ℕ} (k : PairAsked d.store.places a b 0) (is : (i ≡ nat_abs a) × (j ≡ nat_abs b)) where
     pair_given : MayPair d.store.places first second
@@ -37,7 +33,7 @@ module _ (d : Desk) (first second : ℤ) {a b : ℤ} (ea : a ≡ first) (eb : b 
       record { order = o.pieces; taken = subst (Taken d.store.places) (sym j_is) pair_given.second_taken },
     )
 
-    pub paired : {g : ℕ} (v : Verdict) → g ≡ gap_of d → Carries g (piece_at d.store i) (piece_at d.store j) (answer_with v) → Pairs d first second (answer_with v)
-    paired v eg c =
-        pair_answers v (inr (λ f. f o, (pair_asked k).refusal)) i-is j_is
-        (subst (λ (g : ℕ). Carries g (piece_at d.store i) (piece_at d.store j) (answer_with v)) eg c)
+    pub paired : {g : ℕ} {r : Answer} → g ≡ gap_of d → (r.number ≡ 0) × Carries g (piece_at d.store i) (piece_at d.store j) r → Pairs d first second r
+    paired {r = r} eg c =
+        pair_answers (inr (λ f. f o, (pair_asked k).refusal)) i-is j_is
+        (c.0, subst (λ (g : ℕ). Carries g (piece_at d.store i) (piece_at d.store j) r) eg c.1)

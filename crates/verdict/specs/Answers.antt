@@ -87,3 +87,16 @@ pub record OneAnswer (q r : Answer) : Type 0 where
   pub refused : (q.number ≡ done → ⊥) → q ≡ r
   pub unpaired : q.verdict ≡ separate → (q.count ≡ r.count) × (q.pairs ≡ r.pairs)
   pub undirected : q.verdict ≡ penetrating → q.direction ≡ r.direction
+
+-- two verdicts of one question are of one kind; what they carry may vary
+abbrev pub OneVerdict : Verdict → Verdict → Type 0
+OneVerdict (Separate d) (Separate e) = Unit {0}
+OneVerdict (Touching d p) (Touching e q) = Unit {0}
+OneVerdict (Penetrating p) (Penetrating q) = Unit {0}
+OneVerdict v w = ⊥
+
+-- two results of one question: refused, they are one result; else both have a verdict, of one kind
+abbrev pub OneResult : Result Verdict Refusal → Result Verdict Refusal → Type 0
+OneResult (Ok v) (Ok w) = OneVerdict v w
+OneResult (Ok v) (Err r) = ⊥
+OneResult (Err r) t = ◌≡◌ {A = Result Verdict Refusal} (Err r) t

@@ -42,7 +42,7 @@ use Rattle.verdict_walk.specs.Gather.{base_of, Gather, Weighed}
 use Rattle.verdict_walk.specs.GatherLaws.{weight_within, minus_within, none_at, named_same, gather_none, gather_more, count_grows, FourWeigh, four_weigh}
 use Rattle.verdict.specs.declared.witnessed.Verdict.{Verdict}
 use Rattle.verdict.specs.declared.witnessed.Verdict.TheVariants.{Separate, Touching, Penetrating}
-use Rattle.verdict.specs.Answers.{refusals, nothing, answer_with, BadLength, OutOfReach, GapFits, Carries, Answers}
+use Rattle.verdict.specs.Answers.{Answer, refusals, nothing, answer_with, BadLength, OutOfReach, GapFits, Carries, Answers}
 
 -- what is not negative and not 0 is positive
 above_zero : {w : ℤ} → pos 0 ≤ℤ w → (w ≡ pos 0 → ⊥) → pos 0 <ℤ w
@@ -408,9 +408,9 @@ module _ {gap : ℤ} {A B : Piece} where
   pub answered_wide : BothFit A B → BothNear A B → (GapFits gap → ⊥) → Answers gap A B (nothing gap_refused)
   answered_wide f n w = refused_by gap_refused (λ z. omega arith) (inr (not_either f, inr (not_either n, inl (w, refl))))
 
-  pub answered : {g : ℕ} (v : Verdict) → BothFit A B → BothNear A B → GapFits gap → g ≡ nat_abs gap → Carries g A B (answer_with v) → Answers gap A B (answer_with v)
-  answered v f n w e c = record {
-    refusal = inr (not_either f, inr (not_either n, inr (λ h. h w, not_refused v)));
-    zeros = λ g. absurd (g (not_refused v));
-    carries = λ _. subst (λ k. Carries k A B (answer_with v)) e c;
+  pub answered : {g : ℕ} {r : Answer} → BothFit A B → BothNear A B → GapFits gap → g ≡ nat_abs gap → (r.number ≡ done) × Carries g A B r → Answers gap A B r
+  answered {r = r} f n w e c = record {
+    refusal = inr (not_either f, inr (not_either n, inr (λ h. h w, c.0)));
+    zeros = λ g. absurd (g c.0);
+    carries = λ _. subst (λ k. Carries k A B r) e c.1;
   }

@@ -6,6 +6,8 @@ use native.Mathlib.Omega.{arith}
 use mir.Facts.{to_z-of_z}
 use Rattle.std.proofs.lemmas.Result.{err_from_is_err_and}
 use Rattle.limits.specs.DecidesLaws.{unless_taken, unless_left}
+use Rattle.limits.proofs.RefusalLaws.{number_some}
+use Rattle.verdict.specs.Judged.{not_refused}
 use Rattle.desk_state.specs.Lent.{seen}
 use Rattle.desk.specs.CommandLaws.{pair_refuses}
 use Rattle.desk_ask.specs.Pairing.{pair_refused, may_pair, paired}
@@ -20,7 +22,7 @@ returns-in_err-i c =
     let p = err_from_is_err_and c.from_residual.result c.from_residual.ensures.1 in
     rw (p.1, p.2)
     (pair_refused (seen a.desk) a.first a.second (to_z-of_z c.ranges.first) (to_z-of_z c.ranges.second)
-    (unless_left c.in_order.ensures c.if-not-in_order.false-raw) c.in_err-i.field-0.0 c.in_err-i.ensures.asked)
+    (unless_left c.in_order.ensures c.if-not-in_order.false-raw) (λ z. omega (arith, number_some c.in_err-i.field-0.0)) c.in_err-i.ensures.asked)
 
 pub verdict_of-requires-clause-placed_piece : goal.verdict_of-requires-clause-placed_piece
 verdict_of-requires-clause-placed_piece c =
@@ -36,4 +38,5 @@ pub returns : goal.returns
 returns c =
     let a = c.args in
     paired (seen a.desk) a.first a.second (to_z-of_z c.ranges.first) (to_z-of_z c.ranges.second)
-    (unless_left c.in_order.ensures c.if-not-in_order.false-raw) c.in_ok-i.ensures.asked c.in_ok-i.ensures.index _ c.gap_of-gap.ensures c.verdict_of.ensures
+    (unless_left c.in_order.ensures c.if-not-in_order.false-raw) c.in_ok-i.ensures.asked c.in_ok-i.ensures.index c.gap_of-gap.ensures
+    (not_refused c.verdict_of.result, c.verdict_of.ensures)

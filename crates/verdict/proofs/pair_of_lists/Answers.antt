@@ -5,7 +5,7 @@ use lib.IntN.{nat_abs}
 use mir.Facts.{to_z-of_z}
 use Rattle.limits.specs.Decides.{Decides}
 use Rattle.verdict.specs.Answers.{GapFits}
-use Rattle.verdict.specs.Judged.{both_placed, answered, answered_wide, answered_far, answered_long}
+use Rattle.verdict.specs.Judged.{both_placed, not_refused, answered, answered_wide, answered_far, answered_long}
 use Rattle.verdict.proofs.pair_of_lists.Goals as goal
 
 pub returns-then-not-lengths_fit : goal.returns-then-not-lengths_fit
@@ -29,5 +29,5 @@ verdict-requires-clause-placed c = both_placed (c.lengths_fit.ensures.yes c.if-n
 pub returns : goal.returns
 returns c =
     let gap : Decides c.gap_fits.result (GapFits c.args.gap) = subst (λ z. Decides c.gap_fits.result (GapFits z)) (to_z-of_z c.ranges.gap) c.gap_fits.ensures in
-    answered _ (c.lengths_fit.ensures.yes c.if-not-lengths_fit.false) (c.both_near.ensures.yes c.if-not-both_near.false) (gap.yes c.if-not-gap_fits.false)
-    (c.unsigned_abs.ensures.value ∙ ap nat_abs (to_z-of_z c.ranges.gap)) c.verdict.ensures
+    answered (c.lengths_fit.ensures.yes c.if-not-lengths_fit.false) (c.both_near.ensures.yes c.if-not-both_near.false) (gap.yes c.if-not-gap_fits.false)
+    (c.unsigned_abs.ensures.value ∙ ap nat_abs (to_z-of_z c.ranges.gap)) (not_refused c.verdict.result, c.verdict.ensures)
