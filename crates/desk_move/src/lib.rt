@@ -8,7 +8,7 @@ ghost use Rattle.limits.specs.Numbered.{Numbered};
 ghost use Rattle.limits.specs.Refusals.{answer_number};
 ghost use Rattle.pieces.specs.Pieces.{held_in};
 ghost use Rattle.desk_state.specs.Lent.{of_places, SamePlaces, with_places};
-ghost use Rattle.desk_state.specs.Worked.{WorkedFor};
+ghost use Rattle.desk_state.specs.Worked.{Worked};
 ghost use Rattle.desk.specs.Commands.{moved_to, MovedBy, Moves};
 ghost use Rattle.desk_move.specs.Moving.{MoveAsked, MayTurn};
 
@@ -16,8 +16,10 @@ use desk_put::put_place;
 use desk_refusals::asked;
 use desk_state::{LentPlaces, WorkedOut};
 use limits::Refusal;
+use marks::Keys;
 use marks_count::count_marks;
 use pieces::placement::{Offset, Placement};
+use pieces_box::boxes::Boxes;
 
 // Refused, or the piece stands there anew.
 pub fn move_piece(
@@ -30,11 +32,11 @@ pub fn move_piece(
     ensures moves { Moves (of_places desk.old) place turn o (with_places desk.old desk.new) result }
 {
     let mut worked = WorkedOut::boxes_of(desk.shapes);
-    if !desk.tested(&mut worked) {
+    if !desk.tested(&worked.boxes, &mut worked.keys) {
         return Err(Refusal::Disorder);
     }
     let p = move_asked(desk.places, place, turn, o)?;
-    Ok(move_to(desk, &mut worked, p, turn, o))
+    Ok(move_to(desk, &worked.boxes, &mut worked.keys, p, turn, o))
 }
 
 // A taken place whose piece can be turned and moved so: 7, 9, 10, 11.
@@ -69,18 +71,19 @@ fn moved_to(places: &[i32; limits::PLACES_LENGTH], place: usize, turn: i32, o: O
 // The piece of a taken place put down anew; how many pairs of marks changed their order, by the keys before and after.
 fn move_to(
     desk: &mut LentPlaces<'_>,
-    worked: &mut WorkedOut,
+    boxes: &Boxes,
+    keys: &mut Keys,
     place: usize,
     turn: i32,
     o: Offset,
 ) -> u32
     requires may_turn { MayTurn (of_places desk.old) place turn o }
-    requires worked { WorkedFor (of_places desk.old).store worked.old }
+    requires worked { Worked (of_places desk.old).store boxes.now keys.old.x keys.old.y keys.old.z }
     ensures same { SamePlaces desk.old desk.new }
     ensures moved { MovedBy (of_places desk.old) place turn o (with_places desk.old desk.new) result }
 {
-    let before = worked.keys;
+    let before = *keys;
     let q = moved_to(desk.places, place, turn, o);
-    put_place(desk, worked, place, q);
-    count_marks(&before, &worked.keys, place)
+    put_place(desk, boxes, keys, place, q);
+    count_marks(&before, keys, place)
 }

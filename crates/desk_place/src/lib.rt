@@ -20,11 +20,11 @@ pub fn place(desk: &mut LentPlaces<'_>, place: i32, q: Placement) -> Result<u32,
     ensures places { Places (of_places desk.old) place q (with_places desk.old desk.new) result }
 {
     let mut worked = WorkedOut::boxes_of(desk.shapes);
-    if !desk.tested(&mut worked) {
+    if !desk.tested(&worked.boxes, &mut worked.keys) {
         return Err(Refusal::Disorder);
     }
     let p = place_asked(desk.shapes, desk.places, place, q)?;
-    put_place(desk, &mut worked, p, q);
+    put_place(desk, &worked.boxes, &mut worked.keys, p, q);
     Ok(0)
 }
 
@@ -50,10 +50,10 @@ pub fn remove(desk: &mut LentPlaces<'_>, place: i32) -> Result<u32, Refusal>
     ensures removed { Removed (of_places desk.old) place (with_places desk.old desk.new) result }
 {
     let mut worked = WorkedOut::boxes_of(desk.shapes);
-    if !desk.tested(&mut worked) {
+    if !desk.tested(&worked.boxes, &mut worked.keys) {
         return Err(Refusal::Disorder);
     }
     let p = asked::taken_place(desk.places, place)?;
-    empty_place(desk, &mut worked, p);
+    empty_place(desk, &worked.boxes, &mut worked.keys, p);
     Ok(0)
 }

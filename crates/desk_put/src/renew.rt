@@ -5,25 +5,25 @@ ghost use Rattle.limits.specs.Limits;
 ghost use Rattle.pieces_box.specs.ShapeBox.{AllAsked};
 ghost use Rattle.desk_put.specs.Handled.{RenewedIn};
 
-use desk_state::WorkedOut;
-use marks::PlaceKeys;
+use marks::{Keys, PlaceKeys};
 use marks_keep::reorder_marks;
+use pieces_box::boxes::Boxes;
 use pieces_box::keys::keys_at;
 
 pub(crate) fn renew_marks(
     places: &[i32; limits::PLACES_LENGTH],
     marks: &mut [u16],
-    worked: &mut WorkedOut,
+    boxes: &Boxes,
+    keys: &mut Keys,
     place: usize,
 )
-    requires { AllAsked worked.old.boxes places.now
+    requires { AllAsked boxes.now places.now
         × (length marks.old ≡ Limits.marks) × (place < Limits.places) }
-    ensures { RenewedIn worked.old.boxes places.now place
-        worked.old.keys.x worked.old.keys.y worked.old.keys.z
-        worked.new.keys.x worked.new.keys.y worked.new.keys.z marks.old marks.new }
+    ensures { RenewedIn boxes.now places.now place
+        keys.old.x keys.old.y keys.old.z keys.new.x keys.new.y keys.new.z marks.old marks.new }
 {
-    let x = keys_at(&worked.boxes, places, place, 0);
-    let y = keys_at(&worked.boxes, places, place, 1);
-    let z = keys_at(&worked.boxes, places, place, 2);
-    reorder_marks(marks, &mut worked.keys, place, PlaceKeys { x, y, z });
+    let x = keys_at(boxes, places, place, 0);
+    let y = keys_at(boxes, places, place, 1);
+    let z = keys_at(boxes, places, place, 2);
+    reorder_marks(marks, keys, place, PlaceKeys { x, y, z });
 }

@@ -10,7 +10,6 @@ use Rattle.marks.specs.Keys.{KeyedMarks}
 use Rattle.pieces.specs.Pieces.{Store, axes_of}
 use Rattle.pieces_box.specs.declared.boxes.ShapeBox.{ShapeBox}
 use Rattle.pieces_box.specs.ShapeBox.{Boxed}
-use Rattle.desk_state.specs.declared.WorkedOut.{WorkedOut}
 
 pub record Worked (d : Store) (boxes : List ShapeBox) (x y z : List ℕ) : Type 0 where
   pub boxed : Boxed d.shapes boxes
@@ -18,10 +17,6 @@ pub record Worked (d : Store) (boxes : List ShapeBox) (x y z : List ℕ) : Type 
   pub long_x : length x ≡ Limits.axis_marks
   pub long-y : length y ≡ Limits.axis_marks
   pub long_z : length z ≡ Limits.axis_marks
-
--- the same of what a command carries
-abbrev pub WorkedFor : Store → WorkedOut → Type 0
-WorkedFor d w = Worked d w.boxes w.keys.x w.keys.y w.keys.z
 
 -- the order of a desk but for its shapes and places
 pub record RestInOrder (a : Axes) (places : List ℤ) (r b m : List ℕ) : Type 0 where

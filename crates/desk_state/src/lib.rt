@@ -7,7 +7,7 @@ ghost use Rattle.limits.specs.Decides.{Decides};
 ghost use Rattle.pieces_box.specs.ShapeBox.{Boxed};
 ghost use Rattle.desk_state.specs.Desk.{InOrder};
 ghost use Rattle.desk_state.specs.Lent.{held, of_book, of_places, of_shapes, seen};
-ghost use Rattle.desk_state.specs.Worked.{WorkedFor, RestDecided};
+ghost use Rattle.desk_state.specs.Worked.{Worked, RestDecided};
 
 use marks::Keys;
 use marks_test::in_place_marks;
@@ -92,29 +92,29 @@ impl SeenDesk<'_> {
         ensures { Decides result (InOrder (seen self.entry)) }
     {
         let mut worked = WorkedOut::boxes_of(self.shapes);
-        self.tested(&mut worked)
+        self.tested(&worked.boxes, &mut worked.keys)
     }
 
     // The same, with the boxes of its shapes at hand; where it is in order, the keys are those of its marks.
-    pub fn tested(self, worked: &mut WorkedOut) -> bool
-        requires { Boxed self.shapes.now worked.old.boxes }
+    pub fn tested(self, boxes: &Boxes, keys: &mut Keys) -> bool
+        requires { Boxed self.shapes.now boxes.now }
         ensures decided { Decides result (InOrder (seen self.entry)) }
-        ensures worked { result ≡ true → WorkedFor (seen self.entry).store worked.new }
+        ensures worked { result ≡ true → Worked (seen self.entry).store boxes.now keys.new.x keys.new.y keys.new.z }
     {
-        if !pieces_in_order(self.shapes, self.places, &worked.boxes) {
+        if !pieces_in_order(self.shapes, self.places, boxes) {
             return false;
         }
-        put_keys(&worked.boxes, self.places, &mut worked.keys);
-        self.rest_in_order(worked)
+        put_keys(boxes, self.places, keys);
+        self.rest_in_order(keys)
     }
 
     // Whether marks, rows and book are in order, where the shapes and places are; the keys are those of the marks.
-    fn rest_in_order(self, worked: &WorkedOut) -> bool
+    fn rest_in_order(self, keys: &Keys) -> bool
         ensures { RestDecided
             self.entry.places.now self.entry.rows.now self.entry.book.now self.entry.marks.now
-            worked.now.keys.x worked.now.keys.y worked.now.keys.z result }
+            keys.now.x keys.now.y keys.now.z result }
     {
-        if !in_place_marks(self.marks, &worked.keys) {
+        if !in_place_marks(self.marks, keys) {
             return false;
         }
         if !rows_in_order(self.places, self.rows) {
@@ -174,7 +174,7 @@ impl LentBook<'_> {
     pub fn in_order(&self) -> bool
         ensures { Decides result (InOrder (of_book self.now)) }
     {
-        self.seen().in_order()
+        SeenDesk::in_order(self.seen())
     }
 }
 
@@ -192,11 +192,11 @@ impl LentPlaces<'_> {
     }
 
     // Whether the desk is in order, with the boxes of its shapes at hand; where it is, the keys are those of its marks.
-    pub fn tested(&self, worked: &mut WorkedOut) -> bool
-        requires { Boxed self.now.shapes.now worked.old.boxes }
+    pub fn tested(&self, boxes: &Boxes, keys: &mut Keys) -> bool
+        requires { Boxed self.now.shapes.now boxes.now }
         ensures decided { Decides result (InOrder (of_places self.now)) }
-        ensures worked { result ≡ true → WorkedFor (of_places self.now).store worked.new }
+        ensures worked { result ≡ true → Worked (of_places self.now).store boxes.now keys.new.x keys.new.y keys.new.z }
     {
-        self.seen().tested(worked)
+        self.seen().tested(boxes, keys)
     }
 }

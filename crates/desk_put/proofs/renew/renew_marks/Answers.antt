@@ -5,7 +5,7 @@ use Rattle.desk_put.proofs.renew.renew_marks.Goals as goal
 
 pub returns : goal.returns
 returns c =
-    let b = c.args.worked.now.boxes in
+    let b = c.args.boxes.now in
     let q = c.args.places.now in
     let p = c.args.place in
     renewed_in b q p
