@@ -1,12 +1,16 @@
 -- The key of a mark: one number that decides document 01's order, so that code and laws compare numbers only.
 -- What is no mark of a taken place has the key `no_key`, above every mark's.
-use Rattle.std.specs.Prelude.{◌≡◌, List, cond, ℕ, ◌+◌, ◌*◌, ◌/◌, ◌%◌, ◌<◌, ltb, ℤ, pos, nat_abs, ◌+ℤ◌, get_or, set}
+use Rattle.std.specs.Prelude.{◌≡◌, List, cond, ℕ, ◌+◌, ◌*◌, ◌/◌, ◌%◌, ◌<◌, ltb, ℤ, pos, nat_abs, ◌+ℤ◌, get_or, set, replicate}
 use Rattle.limits.specs.Limits
 use Rattle.marks.specs.declared.MarkKeys.{MarkKeys}
 use Rattle.marks.specs.Marks.{Axis, Axes, axis_of, low_mark, high_mark, mark_place, side_of, mark_value, is_mark, Ranged}
 
 abbrev pub no_key : ℕ
 no_key = 4294967295
+
+-- the keys of an axis, of which no mark has one
+abbrev pub no_keys : List ℕ
+no_keys = replicate Limits.axis_marks no_key
 
 -- a value in range, counted from the least
 abbrev pub raised : ℤ → ℕ

@@ -5,7 +5,7 @@
 ghost use Rattle.std.specs.Prelude.{◌≡◌, ◌<◌, length};
 ghost use Rattle.limits.specs.Limits;
 ghost use Rattle.ints.specs.Bounds.{Within};
-ghost use Rattle.marks.specs.Keys.{key_for, key_of};
+ghost use Rattle.marks.specs.Keys.{key_for, key_of, no_keys};
 
 // What is no mark of a taken place has this key, above every mark's.
 // Stays: an Option would be below every key where this stands above, and the keys' arrays, which are compared as numbers, twice as long.
@@ -45,6 +45,7 @@ impl Keys {
         ensures x { length result.x ≡ Limits.axis_marks }
         ensures y { length result.y ≡ Limits.axis_marks }
         ensures z { length result.z ≡ Limits.axis_marks }
+        ensures none { (result.x ≡ no_keys) × (result.y ≡ no_keys) × (result.z ≡ no_keys) }
     {
         Keys {
             x: [NO_KEY; limits::AXIS_MARKS],
