@@ -1,5 +1,5 @@
 -- A shape's numbers keep their range exactly where its box does: no corner is looked at for it. Each number lies between the ends on its axis, and each end is one of the numbers.
--- The ends along a signed axis keep it too.
+-- The ends along a signed axis keep it too, and are two of the six numbers of a box of the table.
 use Rattle.std.specs.Prelude.{ℕ, zero, suc, ◌≤◌, ◌<◌, ◌+◌, ◌*◌, ◌/◌, ◌%◌, ◌≡◌, refl, Bool, true, false, cond, List, eqb, ℤ, pos, neg_ℤ, nat_abs, ◌+ℤ◌, ◌≤ℤ◌, get_or}
 use Rattle.std.proofs.Common.{subst, arith}
 use Rattle.std.specs.Int.Signed.{lt_z}
@@ -11,7 +11,7 @@ use Rattle.pieces.specs.Placed.{least_within, greatest_within}
 use Rattle.turns.specs.Turns.{axis_number}
 use Rattle.pieces_box.specs.declared.boxes.Ends.{Ends}
 use Rattle.pieces_box.specs.declared.boxes.ShapeBox.{ShapeBox}
-use Rattle.pieces_box.specs.ShapeBox.{on_axis, ends_to, box_to, ends_on, opposed, ends_along, box_in, NearEnds, NearBox}
+use Rattle.pieces_box.specs.ShapeBox.{on_axis, ends_to, box_to, ends_on, opposed, ends_along, box_in, box_number, NearEnds, NearBox}
 
 between_within : {n : ℕ} {l v h : ℤ} → Within n l → Within n h → l ≤ℤ v → v ≤ℤ h → Within n v
 between_within a b p q = within_of (≤ℤ-trans (within_lower a) p) (≤ℤ-trans q (within_upper b))
@@ -68,11 +68,20 @@ near_along {b} n k = signed (lt_z k (pos 0)) (ends_on b (axis_number (nat_abs k)
 pub moved_near : {v o : ℤ} → Within Limits.shape_reach v → Within Limits.shape_reach o → Within Limits.placed_reach (v +ℤ o)
 moved_near {v} {o} h k = record { abs = omega (arith, nat_abs_add v o, h.abs, k.abs) }
 
--- ---- the ends of the table's box on a named axis
-pub ends_read : (boxes : List ShapeBox) (s m : ℕ) → ends_on (box_in boxes s) (axis_number m) ≡ cond (eqb m 1) (box_in boxes s).x (cond (eqb m 2) (box_in boxes s).y (box_in boxes s).z)
+-- ---- the ends of a box on a named axis, as they are chosen
+pub ends_named : (b : ShapeBox) (m : ℕ) → ends_on b (axis_number m) ≡ cond (eqb m 1) b.x (cond (eqb m 2) b.y b.z)
+ends_named b m = go (eqb m 1) (eqb m 2)
+  where
+    go : (u v : Bool) → ends_on b (cond u 0 (cond v 1 2)) ≡ cond u b.x (cond v b.y b.z)
+    go true v = refl
+    go false true = refl
+    go false false = refl
+
+-- ---- the two numbers of the table that are the ends on a named axis
+pub ends_read : (boxes : List ShapeBox) (s m : ℕ) → ends_on (box_in boxes s) (axis_number m) ≡ record { low = box_number boxes s (2 * axis_number m); high = box_number boxes s (2 * axis_number m + 1) }
 ends_read boxes s m = go (eqb m 1) (eqb m 2)
   where
-    go : (u v : Bool) → ends_on (box_in boxes s) (cond u 0 (cond v 1 2)) ≡ cond u (box_in boxes s).x (cond v (box_in boxes s).y (box_in boxes s).z)
+    go : (u v : Bool) → let a : ℕ = cond u 0 (cond v 1 2) in ends_on (box_in boxes s) a ≡ record { low = box_number boxes s (2 * a); high = box_number boxes s (2 * a + 1) }
     go true v = refl
     go false true = refl
     go false false = refl

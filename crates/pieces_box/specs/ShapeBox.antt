@@ -1,6 +1,6 @@
 -- The box of a shape, before any turn: its least and its greatest number on each axis, found by one visit of its corners (request W3).
 -- "A turn only swaps or negates axes": `ends_along` is what a turn makes of it, and `Boxed` the table that a command works out once.
-use Rattle.std.specs.Prelude.{ℕ, ◌+◌, ◌-◌, ◌*◌, ◌/◌, ◌%◌, ◌<◌, ◌≡◌, cond, List, eqb, ℤ, pos, neg_ℤ, nat_abs, ◌+ℤ◌, length, get_or}
+use Rattle.std.specs.Prelude.{ℕ, ◌+◌, ◌-◌, ◌*◌, ◌/◌, ◌%◌, ◌<◌, ◌≡◌, cond, List, [], ◌∷◌, eqb, ℤ, pos, neg_ℤ, nat_abs, ◌+ℤ◌, length, get_or}
 use Rattle.std.specs.Int.Signed.{lt_z}
 use Rattle.limits.specs.Limits
 use Rattle.limits.specs.Numbered.{Numbered}
@@ -56,6 +56,13 @@ moved_by e o = record { low = e.low +ℤ o; high = e.high +ℤ o }
 -- the table of boxes: one for each shape
 abbrev pub box_in : List ShapeBox → ℕ → ShapeBox
 box_in boxes s = get_or boxes s (box_from (pos 0) (pos 0) (pos 0))
+
+-- a box's six numbers, low and high on x, on y, on z; and number k of a shape's in the table
+abbrev pub box_list : ShapeBox → List ℤ
+box_list b = b.x.low ∷ b.x.high ∷ b.y.low ∷ b.y.high ∷ b.z.low ∷ b.z.high ∷ []
+
+abbrev pub box_number : List ShapeBox → ℕ → ℕ → ℤ
+box_number boxes s k = get_or (box_list (box_in boxes s)) k (pos 0)
 
 -- the box of each loaded shape stands at its number
 abbrev pub BoxAt : List ℤ → ℕ → ShapeBox → Type 0

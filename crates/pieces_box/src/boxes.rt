@@ -99,9 +99,9 @@ impl ShapeBox {
     }
 
     // The ends along a signed axis: negated and exchanged where it is less than 0.
-    pub(crate) fn along(self, k: i8) -> Ends
-        requires { NearBox self }
-        ensures { result ≡ ends_along self k }
+    pub(crate) fn along(&self, k: i8) -> Ends
+        requires { NearBox self.now }
+        ensures { result ≡ ends_along self.now k }
     {
         let ends = match axis_number(k) {
             0 => self.x,
