@@ -7,7 +7,7 @@ use Rattle.limits.specs.Limits
 use Rattle.limits.specs.Lowest.{Lowest}
 use Rattle.limits.specs.Refusals.{number_of}
 use Rattle.limits.specs.declared.Refusal.{Refusal}
-use Rattle.limits.proofs.LowestLaws.{lowest_first, lowest_then}
+use Rattle.limits.proofs.LowestLaws.{positive, lowest_first, lowest_then}
 use Rattle.limits.proofs.RefusalLaws.{number_some}
 use Rattle.limits.specs.Numbered.{Numbered}
 use Rattle.marks.specs.Marks.{OthersStayMarks}
@@ -44,6 +44,9 @@ pub record MayTurn (d : Desk) (p : ℕ) (turn : ℤ) (o : Offset) : Type 0 where
 module _ (places : List ℤ) (place turn : ℤ) (o : Offset) {a c u v w : ℤ} (ea : a ≡ place) (ec : c ≡ turn) (eu : u ≡ o.x) (ev : v ≡ o.y) (ew : w ≡ o.z) where
   taken_at_lem : (n : ℕ) → TakenAsked places a n → TakenAsked places place n
   taken_at_lem n h = subst (λ (i : ℤ). TakenAsked places i n) ea h
+
+  pub move_by_place : (n : ℕ) → TakenAsked places a n → (n ≡ 0 → ⊥) → MoveAsked places place turn o n
+  move_by_place n h f = asked_refused (lowest_first (taken_refusals places place) (placement_refusals turn o.x o.y o.z) (taken_at_lem n h).refusal (positive f)) (positive f)
 
   pub move_by_rest : TakenAsked places a 0 → (n : ℕ) → PlacementAsked c u v w n → MoveAsked places place turn o n
   move_by_rest p n h =

@@ -24,6 +24,9 @@ module _ {places : List ℤ} {rows book marks x y z : List ℕ} where
   pub rest_by_marks : {b : Bool} → TestedMarks x y z marks b → b ≡ false → RestDecided places rows book marks x y z false
   rest_by_marks {b} t e = record { decides = λ a k. fails refl (λ o. (marks_decided k t).no e o.marks) }
 
+  pub rest_by_rows : (RowsInOrder places rows → ⊥) → RestDecided places rows book marks x y z false
+  rest_by_rows f = record { decides = λ a k. fails refl (λ o. f o.rows) }
+
   pub rest_by_book : {b r : Bool} → TestedMarks x y z marks b → b ≡ true → RowsInOrder places rows → Decides r (BookInOrder rows book) → RestDecided places rows book marks x y z r
   rest_by_book t e s d = record {
     decides = λ a k. record {
