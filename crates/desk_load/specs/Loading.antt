@@ -21,6 +21,12 @@ use Rattle.desk.specs.CommandLaws.{refuses, accepts}
 use Rattle.desk_load.specs.LoadLaws.{load_order}
 
 -- ---- numbers stored one after the other
+pub copied : (d s : List ℤ) (at j : ℕ) {l : List ℤ} {v : ℤ} → v ≡ get_or s j (pos 0) → at + j < length d → j < length s → l ≡ paste d at s j → set l (at + j) v ≡ paste d at s (j + 1)
+copied d s at j {l} {v} ev h k e =
+    let one : suc j ≡ j + 1 = omega arith in
+    let step : set l (at + j) v ≡ paste d at s (suc j) = rw (ev, e) (paste-suc d at s j (pos 0) h k) in
+    step ∙ ap (paste d at s) one
+
 pub copied_all : (d s : List ℤ) (at j : ℕ) {l : List ℤ} → l ≡ paste d at s j → j ≡ length s → at + length s ≤ length d → l ≡ sets d at s
 copied_all d s at j e ej h = e ∙ ap (paste d at s) ej ∙ ap (λ (r : List ℤ). take at d ++ r ++ drop (at + length s) d) (take-length s) ∙ sym (sets-eq s d at h)
 

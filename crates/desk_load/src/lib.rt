@@ -2,7 +2,8 @@
 // Every refusal is found before anything is written.
 #![tactic(auto)]
 
-ghost use Rattle.std.specs.Prelude.{◌≡◌, ◌<◌, ◌≤◌, length, nat_abs, IfOk};
+ghost use Rattle.std.specs.Prelude.{◌≡◌, ◌+◌, ◌<◌, ◌≤◌, length, nat_abs, IfOk};
+ghost use Rattle.std.proofs.lemmas.List.Edits.{sets};
 ghost use Rattle.limits.specs.Limits;
 ghost use Rattle.limits.specs.Refusals.{answer_number};
 ghost use Rattle.pieces.specs.Pieces.{loaded_in};
@@ -69,6 +70,15 @@ fn put_shape(shapes: &mut [i32; limits::SHAPES_LENGTH], s: usize, numbers: &[i32
 {
     let count = s * limits::SHAPE_CELLS;
     shapes[count] = (numbers.len() / 3) as i32;
-    let first = count + 1;
-    shapes[first..first + numbers.len()].copy_from_slice(numbers);
+    copy_numbers(shapes, count + 1, numbers);
+}
+
+// Numbers stored one after the other. Stays a loop: the library's copy needs `memmove`, which the archive for C asks nobody for.
+fn copy_numbers(shapes: &mut [i32; limits::SHAPES_LENGTH], start: usize, numbers: &[i32])
+    requires { (start + length numbers.now ≤ Limits.shapes_length) × (length shapes.old ≡ Limits.shapes_length) }
+    ensures { shapes.new ≡ sets shapes.old start numbers.now }
+{
+    for i in 0..numbers.len() {
+        shapes[start + i] = numbers[i];
+    }
 }
