@@ -30,7 +30,8 @@ fn meeting_verdict(gap: u32, f: Frame, e: Ended, first: &[i32], second: &[i32]) 
     }
     let v = frame_places(f);
     let w = walk(shift_of(v), v, e.portal, f.widths, first, second);
-    if w.met {
+    let inside = w.met;
+    if inside {
         return Verdict::Penetrating { pairs };
     }
     Verdict::Touching {

@@ -29,16 +29,16 @@ walk-w-requires-clause-begun c =
     let p = c.requires in
     let v = c.frame_places-v.ensures in begun_weak p.placed.0 p.placed.1 p.meeting_at.framed (c.shift_of.ensures ∙ ap (λ w. sum3 w.a w.b w.c) v) v p.meeting_at.walked
 
-pub returns-then-w : goal.returns-then-w
-returns-then-w c =
+pub returns-then-inside : goal.returns-then-inside
+returns-then-inside c =
     let p = c.requires in
     let v = c.frame_places-v.ensures in
-    carries_penetrating (penetrating_by p.meeting_at.framed (c.shift_of.ensures ∙ ap (λ w. sum3 w.a w.b w.c) v) v c.walk-w.ensures c.if-w.true)
+    carries_penetrating (penetrating_by p.meeting_at.framed (c.shift_of.ensures ∙ ap (λ w. sum3 w.a w.b w.c) v) v c.walk-w.ensures c.if-inside.true)
     (weights p.placed.0 p.placed.1 p.meeting_at.framed p.meeting_at.walked p.meeting_at.met c.gathered_of-pairs.ensures)
 
 pub returns : goal.returns
 returns c =
     let p = c.requires in
     let v = c.frame_places-v.ensures in
-    carries_touching (touching_by p.meeting_at.framed (c.shift_of.ensures ∙ ap (λ w. sum3 w.a w.b w.c) v) v c.walk-w.ensures c.if-w.false)
+    carries_touching (touching_by p.meeting_at.framed (c.shift_of.ensures ∙ ap (λ w. sum3 w.a w.b w.c) v) v c.walk-w.ensures c.if-inside.false)
     (upto_le tt c.walk-w.ensures.reach) (weights p.placed.0 p.placed.1 p.meeting_at.framed p.meeting_at.walked p.meeting_at.met c.gathered_of-pairs.ensures)
