@@ -82,6 +82,10 @@ module _ (d : Desk) (shape : ℤ) (numbers : List ℤ) {b : ℤ} (eb : b ≡ sha
     s-is : s ≡ nat_abs shape
     s-is = is ∙ ap nat_abs eb
 
+    -- there is room for the shape where it is stored
+    pub room_there : (s < Limits.shapes) × (length numbers ≤ Limits.shape_numbers)
+    room_there = (subst (λ (j : ℕ). j < Limits.shapes) (sym s-is) load_given.numbered.below, let f = load_given.fits in omega (arith, f.is, f.most))
+
     pub loaded : Sized d.store → {shapes : List ℤ} → shapes ≡ loaded_in d.store.shapes s numbers
         → Loads d shape numbers (desk_of shapes d.store.places d.rows d.book d.marks) (Ok 0)
     loaded size {shapes} es =

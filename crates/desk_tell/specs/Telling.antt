@@ -5,9 +5,9 @@ use Rattle.std.proofs.Common.{sym, subst}
 use Rattle.pieces.specs.declared.placement.Placement.{Placement}
 use Rattle.pieces.specs.declared.placement.Offset.{Offset}
 use Rattle.desk_state.specs.Desk.{Desk}
-use Rattle.desk.specs.Commands.{Outcome, Loads, Places, Moves, Removed, SetsGap, Does}
+use Rattle.desk.specs.Commands.{Outcome, Started, Loads, Places, Moves, Removed, SetsGap, Does}
 use Rattle.desk.specs.declared.Command.{Command}
-use Rattle.desk.specs.declared.Command.TheVariants.{Load, Place, Move, Remove, Gap}
+use Rattle.desk.specs.declared.Command.TheVariants.{Start, Load, Place, Move, Remove, Gap}
 
 -- a promise of one number holds of an equal one
 pub loads_at : {d e : Desk} {s t : ℤ} {l : List ℤ} {r : Outcome} → s ≡ t → Loads d s l e r → Loads d t l e r
@@ -30,6 +30,9 @@ does_is : (command c : Command) (numbers : List ℤ) (d after : Desk) (r : Outco
 does_is command c numbers d after r e h = subst (λ (k : Command). Does k numbers d after r) (sym e) h
 
 module _ (command : Command) (numbers : List ℤ) {d after : Desk} {r : Outcome} where
+  pub does_start : command ≡ Start → Started d after r → Does command numbers d after r
+  does_start e h = does_is command _ numbers d after r e h
+
   pub does_load : {shape s : ℤ} → command ≡ Load shape → s ≡ shape → Loads d s numbers after r → Does command numbers d after r
   does_load e es h = does_is command _ numbers d after r e (subst (λ (i : ℤ). Loads d i numbers after r) es h)
 
