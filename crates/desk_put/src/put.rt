@@ -32,12 +32,5 @@ pub fn put_place(
     sized_store(desk.shapes, desk.places);
     put_placement(desk.places, place, q);
     renew_marks(desk.places, desk.marks, boxes, keys, place);
-    put_rows(
-        desk.shapes,
-        desk.places,
-        desk.rows,
-        desk.book,
-        keys,
-        place,
-    );
+    put_rows(desk.shapes, desk.places, desk.rows, desk.book, keys, place);
 }
