@@ -3,3 +3,5 @@ pub mod Behind
 pub mod BehindLaws
 pub mod Named
 pub mod NamedLaws
+pub mod Printed
+pub mod PrintedLaws

@@ -2,10 +2,10 @@
 // `room N` says how many cells `contacts`, `blank` and others are lent, and `lend N` how many cells of the marks buffer the desk is.
 ghost use Rattle.std.specs.Prelude.{◌≡◌, ◌+◌, ◌*◌, ◌≤◌, min, length};
 ghost use Rattle.limits.specs.Limits;
+ghost use Rattle.line.specs.Printed.{SameOut};
 
 use crate::out::Out;
 use crate::parts::only_index;
-use std::fmt;
 
 // "A line of more than 16,384 bytes gets one `?`" (docs/COMMANDS.md).
 pub const MOST_BYTES: usize = 16384;
@@ -50,27 +50,35 @@ pub fn marks() -> [u16; MOST_MARKS]
 }
 
 // `room N`: from 0 cells to all of them.
-pub fn room(line: &[u8], end: usize, lent: &mut [usize; COUNTS], out: &mut Out<'_>) -> fmt::Result {
+pub fn room(line: &[u8], end: usize, lent: &mut [usize; COUNTS], out: &mut Out<'_>)
+    ensures { SameOut out.old out.new }
+{
     let Some(n) = only_index(line, end) else {
-        return out.wrong();
+        out.wrong();
+        return;
     };
     if MOST_ROOM < n {
-        return out.wrong();
+        out.wrong();
+        return;
     }
     lent[ROOM_LENT] = n;
-    out.done()
+    out.done();
 }
 
 // `lend N`: from 0 cells to all of them.
-pub fn lend(line: &[u8], end: usize, lent: &mut [usize; COUNTS], out: &mut Out<'_>) -> fmt::Result {
+pub fn lend(line: &[u8], end: usize, lent: &mut [usize; COUNTS], out: &mut Out<'_>)
+    ensures { SameOut out.old out.new }
+{
     let Some(n) = only_index(line, end) else {
-        return out.wrong();
+        out.wrong();
+        return;
     };
     if MOST_MARKS < n {
-        return out.wrong();
+        out.wrong();
+        return;
     }
     lent[MARKS_LENT] = n;
-    out.done()
+    out.done();
 }
 
 // So many cells, and never more than there are.
