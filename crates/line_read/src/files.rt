@@ -1,6 +1,7 @@
 // The commands on files, given in hex: the corners of a scanner's file and a single step through it, and the corners of an OFF text.
 // `end` is where the command's own word ends.
 ghost use Rattle.std.specs.Prelude.{length};
+ghost use Rattle.line.specs.Printed.{SameOut};
 ghost use Rattle.line_read.specs.ReadWithin.{TextWithin};
 
 use crate::listing::{each, listed};
@@ -10,8 +11,6 @@ use line::lent::at_most;
 use line::out::Out;
 use line::parts::read_index;
 use scans_stl::Triangle;
-use std::fmt;
-use std::fmt::Write;
 
 // `stl HEX`: the corners, in as many of the numbers as are lent.
 pub fn stl(
@@ -21,18 +20,23 @@ pub fn stl(
     lent: &[usize; lent::COUNTS],
     numbers: &mut [i32],
     out: &mut Out<'_>,
-) -> fmt::Result {
+)
+    ensures { SameOut out.old out.new }
+{
     let Some(n) = only_text(line, end, room) else {
-        return out.wrong();
+        out.wrong();
+        return;
     };
     let cells = at_most(lent[lent::ROOM_LENT], numbers.len());
-    stl_corners(&room[0..n], &mut numbers[0..cells], out)
+    stl_corners(&room[0..n], &mut numbers[0..cells], out);
 }
 
-fn stl_corners(file: &[u8], room: &mut [i32], out: &mut Out<'_>) -> fmt::Result {
+fn stl_corners(file: &[u8], room: &mut [i32], out: &mut Out<'_>)
+    ensures { SameOut out.old out.new }
+{
     match scans_stl_corners::corners(file, room) {
         Ok(count) => listed(&room[0..count], out),
-        Err(refusal) => out.refused(refusal),
+        Err(refusal) => out.refused(refusal.number()),
     }
 }
 
@@ -44,49 +48,64 @@ pub fn off(
     lent: &[usize; lent::COUNTS],
     numbers: &mut [i32],
     out: &mut Out<'_>,
-) -> fmt::Result {
+)
+    ensures { SameOut out.old out.new }
+{
     let Some(n) = only_text(line, end, room) else {
-        return out.wrong();
+        out.wrong();
+        return;
     };
     let cells = at_most(lent[lent::ROOM_LENT], numbers.len());
-    off_corners(&room[0..n], &mut numbers[0..cells], out)
+    off_corners(&room[0..n], &mut numbers[0..cells], out);
 }
 
-fn off_corners(text: &[u8], room: &mut [i32], out: &mut Out<'_>) -> fmt::Result {
+fn off_corners(text: &[u8], room: &mut [i32], out: &mut Out<'_>)
+    ensures { SameOut out.old out.new }
+{
     match off_read::corners(text, room) {
         Ok(count) => listed(&room[0..count], out),
-        Err(refusal) => out.refused(refusal),
+        Err(refusal) => out.refused(refusal.number()),
     }
 }
 
 // `triangle AT HEX`: AT is not negative.
-pub fn triangle(line: &[u8], end: usize, room: &mut [u8], out: &mut Out<'_>) -> fmt::Result {
+pub fn triangle(line: &[u8], end: usize, room: &mut [u8], out: &mut Out<'_>)
+    ensures { SameOut out.old out.new }
+{
     if line.len() <= end {
-        return out.wrong();
+        out.wrong();
+        return;
     }
     let next = text_words::word_end(line, end + 1);
     let Some(position) = read_index(&line[end + 1..next]) else {
-        return out.wrong();
+        out.wrong();
+        return;
     };
     let Some(n) = only_text(line, next, room) else {
-        return out.wrong();
+        out.wrong();
+        return;
     };
-    handed(scans_stl::step(&room[0..n], position), out)
+    handed(scans_stl::step(&room[0..n], position), out);
 }
 
-fn handed(step: Result<Option<Triangle>, Refusal>, out: &mut Out<'_>) -> fmt::Result {
+fn handed(step: Result<Option<Triangle>, Refusal>, out: &mut Out<'_>)
+    ensures { SameOut out.old out.new }
+{
     match step {
         Ok(Some(triangle)) => numbers(&triangle.corners, triangle.next, out),
-        Ok(None) => writeln!(out, "0 none"),
-        Err(refusal) => out.refused(refusal),
+        Ok(None) => out.put(b"0 none\n"),
+        Err(refusal) => out.refused(refusal.number()),
     }
 }
 
 // A triangle's corners, and the position behind it.
-fn numbers(corners: &[i32], position: usize, out: &mut Out<'_>) -> fmt::Result {
-    write!(out, "0")?;
-    each(corners, out)?;
-    writeln!(out, " {position}")
+fn numbers(corners: &[i32], position: usize, out: &mut Out<'_>)
+    ensures { SameOut out.old out.new }
+{
+    out.put(b"0");
+    each(corners, out);
+    out.next_count(position);
+    out.end();
 }
 
 // The one word behind a word that ends at a place, as a text into the room.

@@ -3,6 +3,7 @@
 ghost use Rattle.std.specs.Prelude.{◌≡◌};
 ghost use Rattle.std.specs.Float.{binary32};
 ghost use Rattle.std.specs.Float.Ieee.{of_bits};
+ghost use Rattle.line.specs.Printed.{SameOut};
 
 use crate::listing::listed;
 use limits::Refusal;
@@ -11,8 +12,6 @@ use line::lent::at_most;
 use line::names::name_of;
 use line::out::Out;
 use line::parts::{after, only_number, three_words};
-use std::fmt;
-use std::fmt::Write;
 
 // The floats of three bit patterns.
 #[derive(Drop)]
@@ -33,33 +32,54 @@ const SIGN: u32 = 0x8000_0000;
 
 const INFINITY: u32 = 0x7f80_0000;
 
+// The hex digits of a bit pattern.
+const PATTERN_DIGITS: usize = 8;
+
 // `scan h h h`: the steps of a scanned point.
-pub fn scan(line: &[u8], end: usize, out: &mut Out<'_>) -> fmt::Result {
+pub fn scan(line: &[u8], end: usize, out: &mut Out<'_>)
+    ensures { SameOut out.old out.new }
+{
     match read_floats(line, after(line, end)) {
         Floats::Three(x, y, z) => scanned(scans::scan_point(scans::Point { x, y, z }), out),
         Floats::Bad => out.wrong(),
     }
 }
 
-fn scanned(scanned: Result<scans::Steps, Refusal>, out: &mut Out<'_>) -> fmt::Result {
+fn scanned(scanned: Result<scans::Steps, Refusal>, out: &mut Out<'_>)
+    ensures { SameOut out.old out.new }
+{
     match scanned {
-        Ok(steps) => writeln!(out, "0 {} {} {}", steps.x, steps.y, steps.z),
-        Err(refusal) => out.refused(refusal),
+        Ok(steps) => {
+            out.put(b"0");
+            out.next_number(i64::from(steps.x));
+            out.next_number(i64::from(steps.y));
+            out.next_number(i64::from(steps.z));
+            out.end();
+        }
+        Err(refusal) => out.refused(refusal.number()),
     }
 }
 
 // `show STEPS`: the bit pattern of the millimetres shown.
-pub fn show(line: &[u8], end: usize, out: &mut Out<'_>) -> fmt::Result {
+pub fn show(line: &[u8], end: usize, out: &mut Out<'_>)
+    ensures { SameOut out.old out.new }
+{
     match only_number(line, end) {
         Some(steps) => shown(scans::shown(steps), out),
         None => out.wrong(),
     }
 }
 
-fn shown(millimetres: Result<f32, Refusal>, out: &mut Out<'_>) -> fmt::Result {
+fn shown(millimetres: Result<f32, Refusal>, out: &mut Out<'_>)
+    ensures { SameOut out.old out.new }
+{
     match millimetres {
-        Ok(value) => writeln!(out, "0 {:08x}", scans::pattern(value)),
-        Err(refusal) => out.refused(refusal),
+        Ok(value) => {
+            out.put(b"0 ");
+            out.hex(scans::pattern(value), PATTERN_DIGITS);
+            out.end();
+        }
+        Err(refusal) => out.refused(refusal.number()),
     }
 }
 
@@ -70,18 +90,23 @@ pub fn blank(
     lent: &[usize; lent::COUNTS],
     numbers: &mut [i32],
     out: &mut Out<'_>,
-) -> fmt::Result {
+)
+    ensures { SameOut out.old out.new }
+{
     let BlankRead::Blank(b) = read_blank(line, end) else {
-        return out.wrong();
+        out.wrong();
+        return;
     };
     let room = at_most(lent[lent::ROOM_LENT], numbers.len());
-    corners(b, &mut numbers[0..room], out)
+    corners(b, &mut numbers[0..room], out);
 }
 
-fn corners(b: blanks::Blank, room: &mut [i32], out: &mut Out<'_>) -> fmt::Result {
+fn corners(b: blanks::Blank, room: &mut [i32], out: &mut Out<'_>)
+    ensures { SameOut out.old out.new }
+{
     match blanks::corners(b, room) {
         Ok(count) => listed(&room[0..count], out),
-        Err(refusal) => out.refused(refusal),
+        Err(refusal) => out.refused(refusal.number()),
     }
 }
 

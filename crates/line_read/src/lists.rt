@@ -1,34 +1,42 @@
 // The command on two lent lists of placed corners.
 // `end` is where the command's own word ends.
 ghost use Rattle.std.specs.Prelude.{length};
+ghost use Rattle.line.specs.Printed.{SameOut};
 ghost use Rattle.line_read.specs.ReadWithin.{ListWithin};
 
 use line::out::Out;
 use line::parts::{not_negative, numbers_behind};
 use line_verdict::pair_answer;
-use std::fmt;
 
 // The gap is one number, and the lists stand behind it.
 const LISTS: usize = 1;
 
 // `lists G N n .. M n ..`: every word is a number, the gap comes first, and each of the two counts is kept.
-pub fn lists(line: &[u8], end: usize, room: &mut [i32], out: &mut Out<'_>) -> fmt::Result {
+pub fn lists(line: &[u8], end: usize, room: &mut [i32], out: &mut Out<'_>)
+    ensures { SameOut out.old out.new }
+{
     let Some(n) = numbers_behind(line, end, room) else {
-        return out.wrong();
+        out.wrong();
+        return;
     };
-    both_lists(&room[0..n], out)
+    both_lists(&room[0..n], out);
 }
 
 // The line's numbers: the gap, one list behind the other, and nothing behind the second.
-fn both_lists(numbers: &[i32], out: &mut Out<'_>) -> fmt::Result {
+fn both_lists(numbers: &[i32], out: &mut Out<'_>)
+    ensures { SameOut out.old out.new }
+{
     let Some(first) = list_end(numbers, LISTS) else {
-        return out.wrong();
+        out.wrong();
+        return;
     };
     let Some(second) = list_end(numbers, first) else {
-        return out.wrong();
+        out.wrong();
+        return;
     };
     if second != numbers.len() {
-        return out.wrong();
+        out.wrong();
+        return;
     }
     pair_answer(
         verdict::pair_of_lists(
@@ -37,7 +45,7 @@ fn both_lists(numbers: &[i32], out: &mut Out<'_>) -> fmt::Result {
             &numbers[first + 1..second],
         ),
         out,
-    )
+    );
 }
 
 // Where the list ends whose count stands at a place, if as many numbers follow it.

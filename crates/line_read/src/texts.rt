@@ -1,25 +1,33 @@
 // The commands on texts: a typed length, and a menu's line.
 // `end` is where the command's own word ends.
 ghost use Rattle.std.specs.Prelude.{◌≤◌, ◌<◌, ◌+◌, length};
+ghost use Rattle.line.specs.Printed.{SameOut};
 ghost use Rattle.line_read.specs.ReadWithin.{TextsWithin};
 
 use line::out::Out;
 use line::parts::{after, read_index, three_words};
-use std::fmt;
-use std::fmt::Write;
 
 // `length TEXT`: the bytes after one space, to the line's end. `length` alone is the empty text.
-pub fn length(line: &[u8], end: usize, out: &mut Out<'_>) -> fmt::Result {
+pub fn length(line: &[u8], end: usize, out: &mut Out<'_>)
+    ensures { SameOut out.old out.new }
+{
     if end < line.len() {
-        return typed_length(&line[end + 1..], out);
+        typed_length(&line[end + 1..], out);
+    } else {
+        typed_length(b"", out);
     }
-    typed_length(b"", out)
 }
 
-fn typed_length(text: &[u8], out: &mut Out<'_>) -> fmt::Result {
+fn typed_length(text: &[u8], out: &mut Out<'_>)
+    ensures { SameOut out.old out.new }
+{
     match typed::typed_length(text) {
-        Ok(steps) => writeln!(out, "0 {steps}"),
-        Err(refusal) => out.refused(refusal),
+        Ok(steps) => {
+            out.put(b"0");
+            out.next_number(i64::from(steps));
+            out.end();
+        }
+        Err(refusal) => out.refused(refusal.number()),
     }
 }
 
@@ -31,7 +39,9 @@ enum Request {
 }
 
 // `line K t e`: K is not negative, and the two texts are in hex.
-pub fn line(line: &[u8], end: usize, room: &mut [u8], out: &mut Out<'_>) -> fmt::Result {
+pub fn line(line: &[u8], end: usize, room: &mut [u8], out: &mut Out<'_>)
+    ensures { SameOut out.old out.new }
+{
     match read_request(line, end, room) {
         Request::Show(k, first, both) => shown(&room[0..both], first, k, out),
         Request::Bad => out.wrong(),
@@ -65,17 +75,17 @@ fn both_texts(translated: &[u8], english: &[u8], k: usize, room: &mut [u8]) -> R
 }
 
 // The line, from one of the two texts, of which the first ends at a place.
-fn shown(texts: &[u8], first: usize, k: usize, out: &mut Out<'_>) -> fmt::Result
+fn shown(texts: &[u8], first: usize, k: usize, out: &mut Out<'_>)
     requires { first ≤ length texts.now }
+    ensures { SameOut out.old out.new }
 {
     let translated = &texts[0..first];
     let english = &texts[first..];
-    let source = if menus::from_translated(translated, k) {
-        't'
+    if menus::from_translated(translated, k) {
+        out.put(b"0 t:");
     } else {
-        'e'
-    };
-    write!(out, "0 {source}:")?;
-    out.text(menus::menu_line(translated, english, k))?;
-    writeln!(out)
+        out.put(b"0 e:");
+    }
+    out.text(menus::menu_line(translated, english, k));
+    out.end();
 }
