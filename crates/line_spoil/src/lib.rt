@@ -4,12 +4,12 @@
 
 ghost use Rattle.std.specs.Prelude.{pos, get_or};
 ghost use Rattle.line.specs.Behind.{behind, Finds};
+ghost use Rattle.line.specs.Printed.{SameOut};
 ghost use Rattle.line_spoil.specs.Cells.{parts, NoCell, CellAt, CellOf};
 
 use line::names::name_of;
 use line::out::Out;
 use line::parts::{not_negative, number_at, numbers_behind};
-use std::fmt;
 
 // A cell of a part, and what is put there.
 #[derive(Drop)]
@@ -77,9 +77,11 @@ pub fn spoil(
     book: &mut [u32; limits::BOOK],
     marks: &mut [u16],
     out: &mut Out<'_>,
-) -> fmt::Result {
+)
+    ensures { SameOut out.old out.new }
+{
     let done = put(cell, shapes, places, rows, book, marks);
-    out.done_if(done)
+    out.done_if(done);
 }
 
 // Whether there is such a cell, and it can hold the number: then it does.
