@@ -3,6 +3,7 @@
 #![tactic(auto)]
 
 ghost use Rattle.desk_state.specs.Lent.{seen};
+ghost use Rattle.line.specs.Printed.{SameOut};
 ghost use Rattle.line_save.specs.Saving.{Saves};
 
 use desk_state::SeenDesk;
@@ -11,11 +12,10 @@ use line::lent;
 use line::lent::at_most;
 use line::out::Out;
 use line_file::{ShapePath, shape_and_path};
-use std::fmt::Write as Print;
+use std::fs;
 use std::fs::{OpenFile, OpenOptions};
 use std::io::{ErrorKind, Seek, SeekFrom, Write};
 use std::rt::Files;
-use std::{fmt, fs};
 
 // How many bytes of the room are the text, and where the line's path begins; the refusal; or the line is no command.
 #[derive(Drop)]
@@ -40,7 +40,9 @@ pub fn save(
     book: &[u32; limits::BOOK],
     marks: &[u16],
     out: &mut Out<'_>,
-) -> fmt::Result {
+)
+    ensures { SameOut out.old out.new }
+{
     let m = at_most(lent[lent::MARKS_LENT], marks.len());
     let desk = SeenDesk {
         shapes,
@@ -52,9 +54,9 @@ pub fn save(
     match wanted(line, room, desk) {
         Saving::Text(n, start) => {
             let saved = to_file(rt, &line[start..], &room[0..n]);
-            out.done_if(saved)
+            out.done_if(saved);
         }
-        Saving::Refused(number) => writeln!(out, "{number}"),
+        Saving::Refused(number) => out.refused(number),
         Saving::Bad => out.wrong(),
     }
 }
