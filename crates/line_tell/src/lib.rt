@@ -7,6 +7,7 @@ ghost use Rattle.limits.specs.Limits;
 ghost use Rattle.desk_state.specs.Desk.{desk_of};
 ghost use Rattle.desk.specs.Commands.{Started, Does};
 ghost use Rattle.desk.specs.declared.Command.TheVariants.{Start};
+ghost use Rattle.line.specs.Printed.{SameOut};
 ghost use Rattle.line_tell.specs.Tells.{behind_first, Tells, LoadsFile};
 
 use desk::Command;
@@ -18,8 +19,6 @@ use line::lent;
 use line::lent::at_most;
 use line::out::Out;
 use line_file::{Request, requested};
-use std::fmt;
-use std::fmt::Write;
 use std::rt::Files;
 
 // The desk before the first line, in a marks buffer that is longer than its marks.
@@ -71,8 +70,9 @@ pub fn tell(
     book: &mut [u32; limits::BOOK],
     marks: &mut [u16],
     out: &mut Out<'_>,
-) -> fmt::Result
-    ensures { Tells command count numbers.now (min (get_or lent.now 1 0) (length marks.old))
+)
+    ensures same { SameOut out.old out.new }
+    ensures does { Tells command count numbers.now (min (get_or lent.now 1 0) (length marks.old))
         (desk_of shapes.old places.old rows.old book.old marks.old)
         (desk_of shapes.new places.new rows.new book.new marks.new) }
 {
@@ -87,7 +87,7 @@ pub fn tell(
         book,
         &mut marks[0..m],
     );
-    answered(command, answer, out)
+    answered(command, answer, out);
 }
 
 fn told(
@@ -127,8 +127,9 @@ pub fn load_file(
     book: &mut [u32; limits::BOOK],
     marks: &mut [u16],
     out: &mut Out<'_>,
-) -> fmt::Result
-    ensures { LoadsFile kind line.now (min (get_or lent.now 1 0) (length marks.old))
+)
+    ensures same { SameOut out.old out.new }
+    ensures does { LoadsFile kind line.now (min (get_or lent.now 1 0) (length marks.old))
         (desk_of shapes.old places.old rows.old book.old marks.old)
         (desk_of shapes.new places.new rows.new book.new marks.new) }
 {
@@ -145,7 +146,7 @@ pub fn load_file(
             marks,
             out,
         ),
-        Request::Refused(number) => writeln!(out, "{number}"),
+        Request::Refused(number) => out.refused(number),
         Request::Bad => out.wrong(),
     }
 }
@@ -162,10 +163,16 @@ fn behind_first(numbers: &[i32], count: usize) -> &[i32]
 }
 
 // A move answers its count as well.
-fn answered(command: Command, answer: Result<u32, Refusal>, out: &mut Out<'_>) -> fmt::Result {
+fn answered(command: Command, answer: Result<u32, Refusal>, out: &mut Out<'_>)
+    ensures { SameOut out.old out.new }
+{
     match (command, answer) {
-        (_, Err(refusal)) => out.refused(refusal),
-        (Command::Move(_, _, _), Ok(count)) => writeln!(out, "0 {count}"),
+        (_, Err(refusal)) => out.refused(refusal.number()),
+        (Command::Move(_, _, _), Ok(count)) => {
+            out.put(b"0");
+            out.next_number(i64::from(count));
+            out.end();
+        }
         (_, Ok(_)) => out.done(),
     }
 }

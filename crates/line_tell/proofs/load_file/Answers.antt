@@ -9,8 +9,8 @@ use Rattle.line_file.specs.Requests.{Requests}
 use Rattle.line_file.specs.declared.Request.TheVariants.{Load as Loading}
 use Rattle.line_tell.proofs.load_file.Goals as goal
 
-pub returns-in-Load : goal.returns-in-Load
-returns-in-Load o c =
+pub returns-in-Load-clause-does : goal.returns-in-Load-clause-does
+returns-in-Load-clause-does o c =
     let a = c.args in
     let line = a.line.now in
     let told = c.in-Load in
@@ -22,11 +22,11 @@ returns-in-Load o c =
       told.count,
       numbers,
       subst (λ (s : ℤ). Requests a.kind line numbers (Loading s told.count)) (sym same) asked,
-      c.tell.ensures,
+      c.tell.ensures.does,
     )
 
-pub returns-in-Refused : goal.returns-in-Refused
-returns-in-Refused o c = inl refl
+pub returns-in-Refused-clause-does : goal.returns-in-Refused-clause-does
+returns-in-Refused-clause-does o c = inl refl
 
-pub returns-in-Bad : goal.returns-in-Bad
-returns-in-Bad o c = inl refl
+pub returns-in-Bad-clause-does : goal.returns-in-Bad-clause-does
+returns-in-Bad-clause-does o c = inl refl

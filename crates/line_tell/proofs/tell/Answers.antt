@@ -5,8 +5,8 @@ use Rattle.desk_state.specs.Desk.{desk_of}
 use Rattle.line_tell.specs.TellsLaws.{tells_lent}
 use Rattle.line_tell.proofs.tell.Goals as goal
 
-pub returns : goal.returns
-returns c =
+pub returns-clause-does : goal.returns-clause-does
+returns-clause-does c =
     let a = c.args in
     let n = c.at_most-m.result in
     let m = min (get_or a.lent.now 1 0) (length a.marks.now) in
