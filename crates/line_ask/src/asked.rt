@@ -1,5 +1,7 @@
 // What the desk can be asked: the pair of two places, the contacts, the rows, the tallies, the marks, a shape's text, and a report for people.
 // The desk is only read.
+ghost use Rattle.line.specs.Printed.{SameOut};
+
 use crate::report::report;
 use crate::tallies::{APART, PENETRATING, SEPARATE, TOUCHING, total};
 use desk::contacts::contacts;
@@ -12,8 +14,6 @@ use line::lent::at_most;
 use line::out::Out;
 use line_command::Asked;
 use line_verdict::pair_answer;
-use std::fmt;
-use std::fmt::Write;
 
 // A row in the listing of contacts: its two places and its verdict.
 const ROW_BYTES: usize = 3;
@@ -29,7 +29,9 @@ pub fn ask(
     book: &[u32; limits::BOOK],
     marks: &[u16],
     out: &mut Out<'_>,
-) -> fmt::Result {
+)
+    ensures { SameOut out.old out.new }
+{
     let r = at_most(lent[lent::ROOM_LENT], room.len());
     let m = at_most(lent[lent::MARKS_LENT], marks.len());
     let desk = SeenDesk {
@@ -39,34 +41,39 @@ pub fn ask(
         book,
         marks: &marks[0..m],
     };
-    question(asked, &mut room[0..r], desk, out)
+    question(asked, &mut room[0..r], desk, out);
 }
 
-fn question(asked: Asked, room: &mut [u8], desk: SeenDesk<'_>, out: &mut Out<'_>) -> fmt::Result {
+fn question(asked: Asked, room: &mut [u8], desk: SeenDesk<'_>, out: &mut Out<'_>)
+    ensures { SameOut out.old out.new }
+{
     match asked {
         Asked::Pair(p, q) => {
             let answer = pair(desk, p, q);
-            pair_answer(answer, out)
+            pair_answer(answer, out);
         }
         Asked::Contacts => {
             let l = contacts(desk, room);
-            listed(l, room, out)
+            listed(l, room, out);
         }
         Asked::Write(s) => {
             let w = write(desk, s, room);
-            written(w, room, out)
+            written(w, room, out);
         }
         _ => {
-            if !desk.in_order() {
-                return out.refused(Refusal::Disorder);
+            if desk.in_order() {
+                held(asked, desk, out);
+            } else {
+                out.refused(Refusal::Disorder.number());
             }
-            held(asked, desk, out)
         }
     }
 }
 
 // What stands in a desk that is in order.
-fn held(asked: Asked, desk: SeenDesk<'_>, out: &mut Out<'_>) -> fmt::Result {
+fn held(asked: Asked, desk: SeenDesk<'_>, out: &mut Out<'_>)
+    ensures { SameOut out.old out.new }
+{
     match asked {
         Asked::Rows => all_rows(desk.rows, desk.book, out),
         Asked::Tallies => tallies(desk.book, out),
@@ -76,58 +83,76 @@ fn held(asked: Asked, desk: SeenDesk<'_>, out: &mut Out<'_>) -> fmt::Result {
 }
 
 // The listing: a refusal's number, or how many rows there are and the bytes of each. No listing is longer than the room.
-fn listed(l: Result<u32, Refusal>, room: &[u8], out: &mut Out<'_>) -> fmt::Result {
+fn listed(l: Result<u32, Refusal>, room: &[u8], out: &mut Out<'_>)
+    ensures { SameOut out.old out.new }
+{
     match l {
         Ok(n) => {
-            write!(out, "0 {n}")?;
+            out.put(b"0");
+            out.next_number(i64::from(n));
             for byte in room.iter().take(ROW_BYTES * n as usize) {
-                write!(out, " {byte}")?;
+                out.next_number(i64::from(*byte));
             }
-            writeln!(out)
+            out.end();
         }
-        Err(refusal) => out.refused(refusal),
+        Err(refusal) => out.refused(refusal.number()),
     }
 }
 
 // The text of a shape in hex, or the refusal. No text is longer than the room; the smaller of the two shows it to the prover.
-fn written(w: Result<usize, Refusal>, room: &[u8], out: &mut Out<'_>) -> fmt::Result {
+fn written(w: Result<usize, Refusal>, room: &[u8], out: &mut Out<'_>)
+    ensures { SameOut out.old out.new }
+{
     match w {
         Ok(n) => {
             let count = at_most(n, room.len());
-            write!(out, "0 ")?;
-            out.text(&room[0..count])?;
-            writeln!(out)
+            out.put(b"0 ");
+            out.text(&room[0..count]);
+            out.end();
         }
-        Err(refusal) => out.refused(refusal),
+        Err(refusal) => out.refused(refusal.number()),
     }
 }
 
 // Every row, its two places and its verdict: in a desk in order the tallies count them. A cell that has no row is passed over.
-fn all_rows(
-    rows: &[u8; limits::ROWS],
-    book: &[u32; limits::BOOK],
-    out: &mut Out<'_>,
-) -> fmt::Result {
-    write!(out, "0 {}", total(book))?;
+fn all_rows(rows: &[u8; limits::ROWS], book: &[u32; limits::BOOK], out: &mut Out<'_>)
+    ensures { SameOut out.old out.new }
+{
+    out.put(b"0");
+    out.next_count(total(book));
     for (k, verdict) in rows.iter().enumerate() {
         if *verdict != limits::NO_ROW {
-            let p = k / limits::PLACES;
-            let q = k % limits::PLACES;
-            write!(out, " {p} {q} {verdict}")?;
+            row(k, *verdict, out);
         }
     }
-    writeln!(out)
+    out.end();
 }
 
-fn tallies(book: &[u32; limits::BOOK], out: &mut Out<'_>) -> fmt::Result {
-    write!(out, "0 {} {}", book[APART], book[SEPARATE])?;
-    writeln!(out, " {} {}", book[TOUCHING], book[PENETRATING])
+fn row(k: usize, verdict: u8, out: &mut Out<'_>)
+    ensures { SameOut out.old out.new }
+{
+    out.next_count(k / limits::PLACES);
+    out.next_count(k % limits::PLACES);
+    out.next_number(i64::from(verdict));
 }
 
-fn all_marks(marks: &[u16], out: &mut Out<'_>) -> fmt::Result {
-    write!(out, "0")?;
+fn tallies(book: &[u32; limits::BOOK], out: &mut Out<'_>)
+    ensures { SameOut out.old out.new }
+{
+    out.put(b"0");
+    out.next_number(i64::from(book[APART]));
+    out.next_number(i64::from(book[SEPARATE]));
+    out.next_number(i64::from(book[TOUCHING]));
+    out.next_number(i64::from(book[PENETRATING]));
+    out.end();
+}
+
+fn all_marks(marks: &[u16], out: &mut Out<'_>)
+    ensures { SameOut out.old out.new }
+{
+    out.put(b"0");
     for mark in marks {
-        write!(out, " {mark}")?;
+        out.next_number(i64::from(*mark));
     }
-    writeln!(out)
+    out.end();
 }

@@ -1,11 +1,10 @@
 // The report, in words: the gap where there is one, a line for each contact, the counts, whether the shelf can be fired, and a last line `end`.
 // It can be fired where no two pieces touch or overlap, or come as near as the gap: glazed pieces that do fuse for good.
 ghost use Rattle.std.specs.Prelude.{◌≤◌};
+ghost use Rattle.line.specs.Printed.{SameOut};
 
 use crate::tallies::{APART, PENETRATING, SEPARATE, TOUCHING};
 use line::out::Out;
-use std::fmt;
-use std::fmt::Write;
 
 // A millimetre in steps.
 const STEPS: u32 = limits::STEPS as u32;
@@ -21,71 +20,93 @@ pub fn report(
     rows: &[u8; limits::ROWS],
     book: &[u32; limits::BOOK],
     out: &mut Out<'_>,
-) -> fmt::Result {
+)
+    ensures { SameOut out.old out.new }
+{
     let gap = book[limits::GAP_CELL];
-    gap_line(gap, out)?;
-    contacts(rows, gap, out)?;
-    writeln!(out, "pieces: {}", pieces(places))?;
-    pairs(book, gap, out)?;
-    fired(book[TOUCHING], book[PENETRATING], out)?;
-    writeln!(out, "end")
+    gap_line(gap, out);
+    contacts(rows, gap, out);
+    counted(b"pieces: ", pieces(places), out);
+    pairs(book, gap, out);
+    fired(book[TOUCHING], book[PENETRATING], out);
+    out.put(b"end\n");
 }
 
 // The gap, in millimetres and in steps. Where it is 0 there is nothing to say of it.
-fn gap_line(gap: u32, out: &mut Out<'_>) -> fmt::Result {
+fn gap_line(gap: u32, out: &mut Out<'_>)
+    ensures { SameOut out.old out.new }
+{
     if gap == 0 {
-        return Ok(());
+        return;
     }
-    write!(out, "gap: ")?;
-    millimetres(gap, out)?;
-    writeln!(out, " mm (steps: {gap})")
+    out.put(b"gap: ");
+    millimetres(gap, out);
+    out.put(b" mm (steps: ");
+    out.number(i64::from(gap));
+    out.put(b")\n");
 }
 
 // Steps in millimetres, exactly.
-fn millimetres(steps: u32, out: &mut Out<'_>) -> fmt::Result {
-    write!(out, "{}", steps / STEPS)?;
+fn millimetres(steps: u32, out: &mut Out<'_>)
+    ensures { SameOut out.old out.new }
+{
+    out.number(i64::from(steps / STEPS));
     if steps % STEPS == 0 {
-        return Ok(());
+        return;
     }
-    write!(out, ".")?;
-    decimals(steps, out)
+    out.put(b".");
+    decimals(steps, out);
 }
 
 // What is left of steps behind the whole millimetres, digit by digit: a million of them is a whole number of 64ths, so that nothing is
 // left behind six digits.
-fn decimals(steps: u32, out: &mut Out<'_>) -> fmt::Result {
+fn decimals(steps: u32, out: &mut Out<'_>)
+    ensures { SameOut out.old out.new }
+{
     let mut left = steps % STEPS;
     for _ in 0..DECIMALS {
         if left == 0 {
             break;
         }
-        write!(out, "{}", TEN * left / STEPS)?;
+        out.number(i64::from(TEN * left / STEPS));
         left = TEN * left % STEPS;
     }
-    Ok(())
 }
 
 // How many pairs have each verdict.
-fn pairs(book: &[u32; limits::BOOK], gap: u32, out: &mut Out<'_>) -> fmt::Result {
-    writeln!(out, "pairs far apart: {}", book[APART])?;
-    writeln!(out, "pairs separate: {}", book[SEPARATE])?;
-    let touching = book[TOUCHING];
-    let penetrating = book[PENETRATING];
+fn pairs(book: &[u32; limits::BOOK], gap: u32, out: &mut Out<'_>)
+    ensures { SameOut out.old out.new }
+{
+    counted(b"pairs far apart: ", book[APART] as usize, out);
+    counted(b"pairs separate: ", book[SEPARATE] as usize, out);
+    let touching = book[TOUCHING] as usize;
+    let penetrating = book[PENETRATING] as usize;
     if gap == 0 {
-        writeln!(out, "pairs touching: {touching}")?;
-        writeln!(out, "pairs overlapping: {penetrating}")
+        counted(b"pairs touching: ", touching, out);
+        counted(b"pairs overlapping: ", penetrating, out);
     } else {
-        writeln!(out, "pairs just the gap apart: {touching}")?;
-        writeln!(out, "pairs closer than the gap: {penetrating}")
+        counted(b"pairs just the gap apart: ", touching, out);
+        counted(b"pairs closer than the gap: ", penetrating, out);
     }
 }
 
+// A line with a count behind its name.
+fn counted(name: &[u8], n: usize, out: &mut Out<'_>)
+    ensures { SameOut out.old out.new }
+{
+    out.put(name);
+    out.count(n);
+    out.end();
+}
+
 // Whether the shelf can be fired.
-fn fired(touching: u32, overlapping: u32, out: &mut Out<'_>) -> fmt::Result {
+fn fired(touching: u32, overlapping: u32, out: &mut Out<'_>)
+    ensures { SameOut out.old out.new }
+{
     if touching == 0 && overlapping == 0 {
-        writeln!(out, "the shelf can be fired")
+        out.put(b"the shelf can be fired\n");
     } else {
-        writeln!(out, "the shelf cannot be fired")
+        out.put(b"the shelf cannot be fired\n");
     }
 }
 
@@ -98,23 +119,28 @@ fn pieces(places: &[i32; limits::PLACES_LENGTH]) -> usize {
 }
 
 // A line for each row that is a contact.
-fn contacts(rows: &[u8; limits::ROWS], gap: u32, out: &mut Out<'_>) -> fmt::Result {
+fn contacts(rows: &[u8; limits::ROWS], gap: u32, out: &mut Out<'_>)
+    ensures { SameOut out.old out.new }
+{
     for (k, verdict) in rows.iter().enumerate() {
-        contact(k, *verdict, gap, out)?;
+        contact(k, *verdict, gap, out);
     }
-    Ok(())
 }
 
 // Row 2 with a gap is that the pieces are just so far apart, and row 3 that they are closer, be it that they meet.
-fn contact(k: usize, verdict: u8, gap: u32, out: &mut Out<'_>) -> fmt::Result {
+fn contact(k: usize, verdict: u8, gap: u32, out: &mut Out<'_>)
+    ensures { SameOut out.old out.new }
+{
     let how = match (verdict, gap) {
-        (limits::TOUCHING, 0) => "touch",
-        (limits::TOUCHING, _) => "are just the gap apart",
-        (limits::PENETRATING, 0) => "overlap",
-        (limits::PENETRATING, _) => "are closer than the gap",
-        _ => return Ok(()),
+        (limits::TOUCHING, 0) => " touch\n",
+        (limits::TOUCHING, _) => " are just the gap apart\n",
+        (limits::PENETRATING, 0) => " overlap\n",
+        (limits::PENETRATING, _) => " are closer than the gap\n",
+        _ => return,
     };
-    let p = k / limits::PLACES;
-    let q = k % limits::PLACES;
-    writeln!(out, "places {p} and {q} {how}")
+    out.put(b"places ");
+    out.count(k / limits::PLACES);
+    out.put(b" and ");
+    out.count(k % limits::PLACES);
+    out.put(how.as_bytes());
 }

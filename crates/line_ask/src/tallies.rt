@@ -11,10 +11,10 @@ pub const TOUCHING: usize = limits::TOUCHING as usize;
 pub const PENETRATING: usize = limits::PENETRATING as usize;
 
 // How many rows a book counts.
-pub fn total(book: &[u32; limits::BOOK]) -> u64 {
-    let apart = u64::from(book[APART]);
-    let separate = u64::from(book[SEPARATE]);
-    let touching = u64::from(book[TOUCHING]);
-    let penetrating = u64::from(book[PENETRATING]);
+pub fn total(book: &[u32; limits::BOOK]) -> usize {
+    let apart = book[APART] as usize;
+    let separate = book[SEPARATE] as usize;
+    let touching = book[TOUCHING] as usize;
+    let penetrating = book[PENETRATING] as usize;
     apart + separate + touching + penetrating
 }
