@@ -4,6 +4,7 @@
 
 ghost use Rattle.std.specs.Prelude.{◌≡◌, false};
 ghost use Rattle.desk_state.specs.Desk.{desk_of};
+ghost use Rattle.line.specs.Printed.{SameOut};
 ghost use Rattle.line_answer.specs.Answered.{kept_of, Answered};
 
 use line::lent;
@@ -14,7 +15,6 @@ use line_read::{files, floats, lists, texts};
 use line_save::save;
 use line_spoil::Cell;
 use line_tell::{load_file, tell};
-use std::fmt;
 use std::rt::Files;
 
 // Puts the answer to a line.
@@ -31,8 +31,9 @@ pub fn answer(
     rows: &mut [u8; limits::ROWS],
     book: &mut [u32; limits::BOOK],
     marks: &mut [u16],
-) -> fmt::Result
-    ensures { Answered trial line.now numbers.old
+)
+    ensures same { SameOut out.old out.new }
+    ensures answered { Answered trial line.now numbers.old
         (kept_of shapes.old places.old rows.old book.old marks.old lent.old)
         (kept_of shapes.new places.new rows.new book.new marks.new lent.new) }
 {
@@ -61,8 +62,9 @@ fn other(
     texts: &mut [u8],
     numbers: &mut [i32],
     lent: &mut [usize; lent::COUNTS],
-) -> fmt::Result
-    ensures { trial ≡ false → lent.new ≡ lent.old }
+)
+    ensures same { SameOut out.old out.new }
+    ensures stays { trial ≡ false → lent.new ≡ lent.old }
 {
     let end = text_words::word_end(line, 0);
     match command {
@@ -77,7 +79,7 @@ fn other(
         Other::Off => files::off(line, end, texts, lent, numbers, out),
         Other::Room => room(trial, line, end, lent, out),
         Other::Lend => lend(trial, line, end, lent, out),
-        Other::Nothing => Ok(()),
+        Other::Nothing => {}
         Other::Unknown => out.wrong(),
     }
 }
@@ -92,44 +94,38 @@ fn spoil(
     book: &mut [u32; limits::BOOK],
     marks: &mut [u16],
     out: &mut Out<'_>,
-) -> fmt::Result
-    ensures { trial ≡ false → desk_of shapes.new places.new rows.new book.new marks.new
+)
+    ensures same { SameOut out.old out.new }
+    ensures stays { trial ≡ false → desk_of shapes.new places.new rows.new book.new marks.new
         ≡ desk_of shapes.old places.old rows.old book.old marks.old }
 {
     if trial {
-        return line_spoil::spoil(cell, shapes, places, rows, book, marks, out);
+        line_spoil::spoil(cell, shapes, places, rows, book, marks, out);
+        return;
     }
-    out.wrong()
+    out.wrong();
 }
 
 // `room N`, a test tool.
-fn room(
-    trial: bool,
-    line: &[u8],
-    end: usize,
-    lent: &mut [usize; lent::COUNTS],
-    out: &mut Out<'_>,
-) -> fmt::Result
-    ensures { trial ≡ false → lent.new ≡ lent.old }
+fn room(trial: bool, line: &[u8], end: usize, lent: &mut [usize; lent::COUNTS], out: &mut Out<'_>)
+    ensures same { SameOut out.old out.new }
+    ensures stays { trial ≡ false → lent.new ≡ lent.old }
 {
     if trial {
-        return lent::room(line, end, lent, out);
+        lent::room(line, end, lent, out);
+        return;
     }
-    out.wrong()
+    out.wrong();
 }
 
 // `lend N`, a test tool.
-fn lend(
-    trial: bool,
-    line: &[u8],
-    end: usize,
-    lent: &mut [usize; lent::COUNTS],
-    out: &mut Out<'_>,
-) -> fmt::Result
-    ensures { trial ≡ false → lent.new ≡ lent.old }
+fn lend(trial: bool, line: &[u8], end: usize, lent: &mut [usize; lent::COUNTS], out: &mut Out<'_>)
+    ensures same { SameOut out.old out.new }
+    ensures stays { trial ≡ false → lent.new ≡ lent.old }
 {
     if trial {
-        return lent::lend(line, end, lent, out);
+        lent::lend(line, end, lent, out);
+        return;
     }
-    out.wrong()
+    out.wrong();
 }

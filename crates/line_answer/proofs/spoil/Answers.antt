@@ -3,5 +3,5 @@ use mathlib.Core.Path.{sym, ◌∙◌}
 use mathlib.Core.Bool.{true≢false}
 use Rattle.line_answer.proofs.spoil.Goals as goal
 
-pub returns-then-trial : goal.returns-then-trial
-returns-then-trial c = λ e. absurd (true≢false (sym c.if-trial.true ∙ e))
+pub returns-then-trial-clause-stays : goal.returns-then-trial-clause-stays
+returns-then-trial-clause-stays c = λ e. absurd (true≢false (sym c.if-trial.true ∙ e))
