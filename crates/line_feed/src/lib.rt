@@ -4,6 +4,7 @@
 
 ghost use Rattle.std.specs.Prelude.{List, [], ◌∷◌, ℕ, length};
 ghost use Rattle.line_input.specs.Input.{bare as Input·bare, Holds};
+ghost use Rattle.line.specs.Printed.{SameOut};
 ghost use Rattle.line_answer.specs.Answered.{kept_of};
 ghost use Rattle.line_feed.specs.Served.{Serves, Feeds, FeedsUpTo};
 
@@ -40,10 +41,11 @@ pub fn feed(
     book: &mut [u32; limits::BOOK],
     marks: &mut [u16],
 ) -> usize
-    ensures { (part : List ℕ) → Holds held.old start part → FeedsUpTo mode.trial (length numbers.old) part piece.now
+    ensures same { SameOut out.old out.new }
+    ensures feeds { (part : List ℕ) → Holds held.old start part → FeedsUpTo mode.trial (length numbers.old) part piece.now
         (kept_of shapes.old places.old rows.old book.old marks.old lent.old)
         (kept_of shapes.new places.new rows.new book.new marks.new lent.new)
-        held.new result out.new.at (length out.new.buffer.now) }
+        held.new result out.new.at (length out.old.buffer.now) }
 {
     let mut kept = start;
     for byte in piece {
@@ -76,7 +78,8 @@ fn feed_byte(
     book: &mut [u32; limits::BOOK],
     marks: &mut [u16],
 ) -> usize
-    ensures { (part : List ℕ) → Holds held.old kept part → Feeds mode.trial (length numbers.old) part (byte ∷ [])
+    ensures same { SameOut out.old out.new }
+    ensures feeds { (part : List ℕ) → Holds held.old kept part → Feeds mode.trial (length numbers.old) part (byte ∷ [])
         (kept_of shapes.old places.old rows.old book.old marks.old lent.old)
         (kept_of shapes.new places.new rows.new book.new marks.new lent.new)
         held.new result }
@@ -106,7 +109,8 @@ pub fn answer_held(
     book: &mut [u32; limits::BOOK],
     marks: &mut [u16],
 )
-    ensures { (part : List ℕ) → Holds held.now kept part → Serves mode.trial (length numbers.old) (Input·bare part)
+    ensures same { SameOut out.old out.new }
+    ensures serves { (part : List ℕ) → Holds held.now kept part → Serves mode.trial (length numbers.old) (Input·bare part)
         (kept_of shapes.old places.old rows.old book.old marks.old lent.old)
         (kept_of shapes.new places.new rows.new book.new marks.new lent.new) }
 {
@@ -117,14 +121,15 @@ pub fn answer_held(
     echoed(echo, line, out);
     answer(
         rt, trial, line, out, texts, numbers, lent, shapes, places, rows, book, marks,
-    )
-    .is_ok();
+    );
     settle(rt, out);
 }
 
 // Writes the answers out once they fill half of the buffer. The longest answer fits the other half of the program's: a report of 8,128
 // contacts at 43 bytes each, behind a line of 16,384.
-fn settle(rt: &(impl Print + Eprint), out: &mut Out<'_>) {
+fn settle(rt: &(impl Print + Eprint), out: &mut Out<'_>)
+    ensures { SameOut out.old out.new }
+{
     let at = out.at;
     if out.buffer.len() / 2 < at {
         out.at = write_out(rt, out.buffer, at);
@@ -133,7 +138,9 @@ fn settle(rt: &(impl Print + Eprint), out: &mut Out<'_>) {
 
 // Puts a line before its answer, behind `> `, where that is asked for. One that is passed over gets no answer; of one that is too long the
 // first bytes are put.
-fn echoed(echo: bool, line: &[u8], out: &mut Out<'_>) {
+fn echoed(echo: bool, line: &[u8], out: &mut Out<'_>)
+    ensures { SameOut out.old out.new }
+{
     if !echo || line.is_empty() || line[0] == b'#' {
         return;
     }
@@ -141,5 +148,5 @@ fn echoed(echo: bool, line: &[u8], out: &mut Out<'_>) {
     for byte in line.iter().take(MOST_BYTES) {
         out.put(&[*byte]);
     }
-    out.put(b"\n");
+    out.end();
 }

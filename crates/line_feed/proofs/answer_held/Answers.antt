@@ -7,8 +7,8 @@ use Rattle.line_input.specs.Input.{bare}
 use Rattle.line_feed.specs.HeldLaws.{answered_kept}
 use Rattle.line_feed.proofs.answer_held.Goals as goal
 
-pub returns : goal.returns
-returns o c =
+pub returns-clause-serves : goal.returns-clause-serves
+returns-clause-serves o c =
     let a = c.args in
     let m = c.at_most-n in
     let line = c.bare-line.ensures in
@@ -17,5 +17,5 @@ returns o c =
     record {
       room = a.numbers.now;
       size = refl;
-      answered = answered_kept h (line ∙ ap (λ (k : ℕ). bare (take k a.held.now)) e) c.answer.ensures;
+      answered = answered_kept h (line ∙ ap (λ (k : ℕ). bare (take k a.held.now)) e) c.answer.ensures.answered;
     }

@@ -2,12 +2,12 @@
 use Rattle.line_feed.specs.ServedLaws.{feeds-end, feeds_other}
 use Rattle.line_feed.proofs.feed_byte.Goals as goal
 
-pub returns-then-byte-eq-LINE_END : goal.returns-then-byte-eq-LINE_END
-returns-then-byte-eq-LINE_END o c =
+pub returns-then-byte-eq-LINE_END-clause-feeds : goal.returns-then-byte-eq-LINE_END-clause-feeds
+returns-then-byte-eq-LINE_END-clause-feeds o c =
     let ends = c.if-byte-eq-LINE_END.true in
-    λ part h. feeds-end c.args.byte ends h (c.answer_held.ensures part h)
+    λ part h. feeds-end c.args.byte ends h (c.answer_held.ensures.serves part h)
 
-pub returns : goal.returns
-returns o c =
+pub returns-clause-feeds : goal.returns-clause-feeds
+returns-clause-feeds o c =
     let other = c.if-byte-eq-LINE_END.false in
     λ part h. feeds_other c.args.byte other (c.hold.ensures part h)
