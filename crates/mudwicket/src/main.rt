@@ -8,6 +8,7 @@ ghost use Rattle.std.specs.Prelude.{◌≡◌, List, false, ℕ, ◌≤◌, ◌<
 ghost use Rattle.limits.specs.Limits;
 ghost use Rattle.desk_state.specs.Desk.{desk_of};
 ghost use Rattle.line_command.specs.Lines.{most_bytes};
+ghost use Rattle.line.specs.Printed.{SameOut};
 ghost use Rattle.line_input.specs.Input.{held_bytes, Holds};
 ghost use Rattle.line_answer.specs.Answered.{kept_of};
 ghost use Rattle.line_feed.specs.Served.{FeedsSome, ServedAll};
@@ -126,7 +127,8 @@ fn run(
     requires most_bytes_in_bounds { most_bytes < length numbers.old }
     requires in_bounds { Limits.marks ≤ length marks.old }
     requires lent_value { get_or lent.old 1 0 ≡ Limits.marks }
-    ensures { mode.trial ≡ false → StandsBy (desk_of shapes.new places.new rows.new book.new marks.new) }
+    ensures same { SameOut out.old out.new }
+    ensures stands { mode.trial ≡ false → StandsBy (desk_of shapes.new places.new rows.new book.new marks.new) }
 {
     fresh(shapes, places, rows, book, marks);
     serve(
@@ -152,7 +154,8 @@ fn serve(
     marks: &mut [u16],
 )
     requires { held_bytes ≤ length held.old }
-    ensures { ServedAll mode.trial (length numbers.old)
+    ensures same { SameOut out.old out.new }
+    ensures serves { ServedAll mode.trial (length numbers.old)
         (kept_of shapes.old places.old rows.old book.old marks.old lent.old)
         (kept_of shapes.new places.new rows.new book.new marks.new lent.new) }
 {
@@ -196,7 +199,8 @@ fn round(
     book: &mut [u32; limits::BOOK],
     marks: &mut [u16],
 ) -> Waiting
-    ensures { (part : List ℕ) → Holds held.old kept part → FeedsSome mode.trial (length numbers.old) part
+    ensures same { SameOut out.old out.new }
+    ensures feeds { (part : List ℕ) → Holds held.old kept part → FeedsSome mode.trial (length numbers.old) part
         (kept_of shapes.old places.old rows.old book.old marks.old lent.old)
         (kept_of shapes.new places.new rows.new book.new marks.new lent.new)
         held.new result.kept }

@@ -3,8 +3,8 @@ use Rattle.std.specs.Prelude.{[]}
 use Rattle.line_feed.specs.ServedLaws.{feeds_none}
 use Rattle.mudwicket.proofs.round.Goals as goal
 
-pub returns-then-input-n : goal.returns-then-input-n
-returns-then-input-n o c = λ part h. record { bytes = []; feeds = feeds_none h }
+pub returns-then-input-n-clause-feeds : goal.returns-then-input-n-clause-feeds
+returns-then-input-n-clause-feeds o c = λ part h. record { bytes = []; feeds = feeds_none h }
 
-pub returns : goal.returns
-returns o c = λ part h. record { bytes = _; feeds = (c.feed-more.ensures part h).feeds }
+pub returns-clause-feeds : goal.returns-clause-feeds
+returns-clause-feeds o c = λ part h. record { bytes = _; feeds = (c.feed-more.ensures.feeds part h).feeds }

@@ -1,5 +1,6 @@
 -- `mudwicket::serve` meets its contract. The invariant: what was read so far is fed. The measure is the rounds that are left.
 use Rattle.std.specs.Prelude.{[], ◌≡◌, length}
+use Rattle.line.specs.Printed.{SameOut}
 use Rattle.line_answer.specs.Answered.{kept_of}
 use Rattle.line_feed.specs.Served.{FeedsSome}
 use Rattle.mudwicket.proofs.serve.Given as goal
@@ -15,6 +16,7 @@ invariant-loop-rounds o l =
     × (length l.texts ≡ length l.initial.texts)
     × (length l.numbers ≡ length l.initial.numbers)
     × (length l.marks ≡ length l.initial.marks)
+    × SameOut l.initial.out l.out
 
 abbrev pub decreases-loop-rounds : goal.decreases-loop-rounds
 decreases-loop-rounds o l = l.rounds
