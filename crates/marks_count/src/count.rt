@@ -1,13 +1,21 @@
 // How many pairs of a mark of the moved place and a mark of another place change their order on one axis.
 // Counted by the definition, in two straight loops: over the marks below the own two, and over those above.
 ghost use Rattle.std.specs.Prelude.{◌≡◌, ◌+◌, ◌*◌, ◌≤◌, ◌<◌};
+ghost use Rattle.std.specs.Bool.{xor};
 ghost use Rattle.limits.specs.Limits;
-ghost use Rattle.ints.specs.Counts.{sum_to};
+ghost use Rattle.ints.specs.Counts.{one_if, sum_to};
 ghost use Rattle.marks.specs.Keys.{keys_at};
 ghost use Rattle.marks.specs.Changed.{crossed_by, crossed_with};
 ghost use Rattle.marks.specs.Promises.{Counted};
 
 use marks::MarkKeys;
+
+// 1 where two tests differ, else 0.
+fn differs(a: bool, b: bool) -> u32
+    ensures { (result ≡ one_if (xor a b)) × (result ≤ 1) }
+{
+    u32::from(a != b)
+}
 
 // The keys of a place's two marks.
 fn keys_at(keys: &[u32; limits::AXIS_MARKS], place: usize) -> MarkKeys
@@ -24,8 +32,8 @@ fn keys_at(keys: &[u32; limits::AXIS_MARKS], place: usize) -> MarkKeys
 fn crossed_by(was: MarkKeys, is: MarkKeys, before: u32, after: u32) -> u32
     ensures { result ≡ crossed_by was is before after }
 {
-    let low = u32::from((was.low < before) != (is.low < after));
-    let high = u32::from((was.high < before) != (is.high < after));
+    let low = differs(was.low < before, is.low < after);
+    let high = differs(was.high < before, is.high < after);
     low + high
 }
 

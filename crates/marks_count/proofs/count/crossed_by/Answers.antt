@@ -1,16 +1,6 @@
--- Two tests that differ count 1.
-use mir.Val.{bool_byte}
-use mathlib.Core.Bool.{beq, xor}
-use Rattle.std.proofs.Common.{◌≡◌, refl, Bool, true, false, not, arith}
-use Rattle.ints.specs.Counts.{one_if}
+-- Each of the two own marks counts 1 where its two tests differ.
+use Rattle.std.proofs.Common.{arith}
 use Rattle.marks_count.proofs.count.crossed_by.Goals as goal
 
-differ : (a b : Bool) → bool_byte (not (beq a b)) ≡ one_if (xor a b)
-unfolding xor
-differ true true = refl
-differ true false = refl
-differ false true = refl
-differ false false = refl
-
 pub returns : goal.returns
-returns c = omega (arith, c.from-low.ensures, c.from-high.ensures, differ)
+returns c = omega (arith, c.differs-low.ensures.0, c.differs-high.ensures.0)
