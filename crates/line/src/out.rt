@@ -26,6 +26,8 @@ pub fn buffer() -> [u8; BUFFER]
 }
 
 // The buffer, and the place in it at which the next answer goes.
+// Stays without the library's formatting: that answers a Result, and promises neither that there is no Err nor what becomes of the buffer with
+// one. Here a printer cannot fail, the buffer stays the caller's, and a number that is printed goes through `text_put`.
 #[derive(Drop)]
 pub struct Out<'a> {
     pub buffer: &'a mut [u8],
