@@ -41,9 +41,13 @@ BelowAs bound word r = MatchOption r (Names bound word → ⊥) (λ n. Names bou
 
 -- the next word as a number below the bound, and the words behind it
 pub record CountedAs (bound : ℕ) (s : List ℕ) (r : Option ℕ) (t : List ℕ) : Type 0 where
-  pub behind : Behind s t
   pub value : BelowAs bound (word_at (words_in s) 0) r
   pub rest : words_in t ≡ drop 1 (words_in s)
+
+-- the same, and what is left is a rest of what was
+pub record CountedBehind (bound : ℕ) (s : List ℕ) (r : Option ℕ) (t : List ℕ) : Type 0 where
+  pub behind : Behind s t
+  pub counted : CountedAs bound s r t
 
 -- whether the next n words name corners, and if so what is left behind them
 pub record IndicesAs (corners n : ℕ) (words : List (List ℕ)) (r : Bool) (t : List ℕ) : Type 0 where

@@ -8,7 +8,7 @@ ghost use Rattle.std.specs.List.{list_all};
 ghost use Rattle.limits.specs.Decides.{Decides};
 ghost use Rattle.text_digits.specs.Decimal.{Digit};
 ghost use Rattle.off_text.specs.Off.{CommaOutside, white, words_in, IsCount, Faces};
-ghost use Rattle.off_text.specs.Walk.{plain, Behind, PassedAs, StartAs, NextAs, BelowAs, CountedAs, IndicesAs, FaceAs};
+ghost use Rattle.off_text.specs.Walk.{plain, Behind, PassedAs, StartAs, NextAs, BelowAs, CountedBehind, IndicesAs, FaceAs};
 
 // What is left behind the comment that a text starts with, or else behind its first byte.
 fn passed(text: &[u8]) -> &[u8]
@@ -93,7 +93,7 @@ impl<'a> Words<'a> {
 
     // The next word as a number below a bound; nothing where it is none.
     pub fn next_below(&mut self, bound: usize) -> Option<usize>
-        ensures { CountedAs bound self.old.rest.now result self.new.rest.now }
+        ensures { CountedBehind bound self.old.rest.now result self.new.rest.now }
     {
         below(self.next_word()?, bound)
     }

@@ -5,4 +5,4 @@ use Rattle.off_text.specs.FaceLaws.{face_not}
 use Rattle.off_text.proofs.face.Goals as goal
 
 pub returns-in-None-clause-told : goal.returns-in-None-clause-told
-returns-in-None-clause-told c = record { good = λ g. absurd (subst T (sym g) tt); bad = λ _. face_not c.args.corners _ _ c.in-None.ensures }
+returns-in-None-clause-told c = record { good = λ g. absurd (subst T (sym g) tt); bad = λ _. face_not c.args.corners _ _ c.in-None.ensures.counted }
